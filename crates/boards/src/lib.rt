@@ -1,0 +1,2 @@
+// What hangs on the port pins: docs/BOARDS.md.
+pub mod board;

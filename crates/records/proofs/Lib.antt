@@ -1,0 +1,4 @@
+pub mod Layouts
+pub mod Growth
+pub mod Reading
+pub mod Writing

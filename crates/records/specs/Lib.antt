@@ -1,0 +1,9 @@
+pub mod Refusal
+pub mod Port
+pub mod Bytes
+pub mod Pin
+pub mod PortWrite
+pub mod Trace
+pub mod Log
+pub mod File
+pub mod Text
