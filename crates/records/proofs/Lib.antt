@@ -1,4 +1,1 @@
 pub mod Layouts
-pub mod Growth
-pub mod Reading
-pub mod Writing

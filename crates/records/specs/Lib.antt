@@ -4,6 +4,3 @@ pub mod Bytes
 pub mod Pin
 pub mod PortWrite
 pub mod Trace
-pub mod Log
-pub mod File
-pub mod Text

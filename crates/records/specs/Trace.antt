@@ -1,9 +1,9 @@
 -- A trace record in eight bytes: kind, PC (two, high first), opcode, cycles, source, marks, accumulator.
-use Prim.Native.Nat.{ℕ, _+_, _*_}
+use Prim.Native.Nat.{ℕ, _+_, _*_, _/_, _%_}
 use mathlib.Core.Bool.{Bool, true, false, cond, _&&_}
 use mathlib.Core.List.{List, [], _∷_}
 use lib.ListN.{length, getD}
-use lib.Dec.{eqb}
+use lib.Dec.{eqb, ltb}
 use Rattle.std.specs.declared.result.Result.{Result}
 use Rattle.std.specs.declared.result.Result.the-variants.{Ok, Err}
 use Rattle.outcome.specs.Outcome.{then}
@@ -54,9 +54,7 @@ abbrev pub marks : Bool → Bool → Marks
 marks low high = record { low = low; high = high }
 
 abbrev pub marks-of : ℕ → Result Marks Refusal
-marks-of b =
-    cond (eqb b 0) (Ok (marks false false)) (cond (eqb b 1) (Ok (marks true false))
-    (cond (eqb b 2) (Ok (marks false true)) (cond (eqb b 3) (Ok (marks true true)) (Err FieldOutsideLayout))))
+marks-of b = cond (ltb b 4) (Ok (marks (eqb (b % 2) 1) (eqb (b / 2) 1))) (Err FieldOutsideLayout)
 
 -- kind 0 is an instruction, with its opcode and source 0; kind 1 a vector call, with opcode 00H and its source
 abbrev pub kind-byte : StepKind → ℕ

@@ -5,7 +5,7 @@ ghost use Rattle.records.specs.Port.{port-number, port-of};
 use crate::refusals::Refusal;
 
 // One of the four ports.
-#[derive(Clone, Copy, PartialEq, Eq, Debug)]
+#[derive(Clone, Copy)]
 pub enum Port {
     P0,
     P1,

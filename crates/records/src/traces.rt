@@ -51,7 +51,7 @@ pub struct TraceRecord {
 }
 
 impl Source {
-    pub fn number(self) -> u8
+    fn number(self) -> u8
         ensures value { λ r. ⌜ r ≡ source-number self ⌝ }
         ensures back { λ r. ⌜ source-of r ≡ Ok self ⌝ }
     {
@@ -64,7 +64,7 @@ impl Source {
         }
     }
 
-    pub fn from_number(n: u8) -> Result<Source, Refusal>
+    fn from_number(n: u8) -> Result<Source, Refusal>
         ensures value { λ r. ⌜ r ≡ source-of n ⌝ }
         ensures exact { λ r. ⌜ made r (λ s. source-number s ≡ n) ⌝ }
     {
@@ -80,7 +80,7 @@ impl Source {
 }
 
 impl Cycles {
-    pub fn number(self) -> u8
+    fn number(self) -> u8
         ensures value { λ r. ⌜ r ≡ cycles-number self ⌝ }
         ensures back { λ r. ⌜ cycles-of r ≡ Ok self ⌝ }
     {
@@ -91,7 +91,7 @@ impl Cycles {
         }
     }
 
-    pub fn from_number(n: u8) -> Result<Cycles, Refusal>
+    fn from_number(n: u8) -> Result<Cycles, Refusal>
         ensures value { λ r. ⌜ r ≡ cycles-of n ⌝ }
         ensures exact { λ r. ⌜ made r (λ c. cycles-number c ≡ n) ⌝ }
     {
@@ -105,36 +105,24 @@ impl Cycles {
 }
 
 impl Marks {
-    pub fn byte(self) -> u8
+    fn byte(self) -> u8
         ensures value { λ r. ⌜ r ≡ marks-byte self ⌝ }
         ensures back { λ r. ⌜ marks-of r ≡ Ok self ⌝ }
     {
         self.low as u8 + 2 * self.high as u8
     }
 
-    pub fn from_byte(b: u8) -> Result<Marks, Refusal>
+    fn from_byte(b: u8) -> Result<Marks, Refusal>
         ensures value { λ r. ⌜ r ≡ marks-of b ⌝ }
         ensures exact { λ r. ⌜ made r (λ m. marks-byte m ≡ b) ⌝ }
     {
-        match b {
-            0 => Ok(Marks {
-                low: false,
-                high: false,
-            }),
-            1 => Ok(Marks {
-                low: true,
-                high: false,
-            }),
-            2 => Ok(Marks {
-                low: false,
-                high: true,
-            }),
-            3 => Ok(Marks {
-                low: true,
-                high: true,
-            }),
-            _ => Err(Refusal::FieldOutsideLayout),
+        if b > 3 {
+            return Err(Refusal::FieldOutsideLayout);
         }
+        Ok(Marks {
+            low: b % 2 == 1,
+            high: b / 2 == 1,
+        })
     }
 }
 

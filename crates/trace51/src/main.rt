@@ -1,12 +1,14 @@
 // Reads pins.bin and prints its pin records, and what stopped them: docs/RECORDS.md.
+use logs::text::write_pins_text;
+ghost use Prim.Native.Nat.{_≤_};
+ghost use lib.ListN.{length};
+ghost use Rattle.std.specs.Vec.{made};
 use std::error::AnyError;
 use std::fs::File;
 use std::io;
 use std::io::ErrorKind;
 use std::io::Read;
 use std::io::Write;
-
-use records::text::write_pins_text;
 
 // The bytes of a file that count.
 const FILE_BYTES: usize = 4096;
@@ -15,7 +17,9 @@ const FILE_BYTES: usize = 4096;
 const TEXT_BYTES: usize = 8712;
 
 // Reads a file into a memory until either is at its end, and answers how many bytes it read.
-fn fill(file: &mut File, bytes: &mut [u8]) -> io::Result<usize> {
+fn fill(file: &mut File, bytes: &mut [u8]) -> io::Result<usize>
+    ensures { λ r. ⌜ made r (λ n. n ≤ length (now (bytes .entry))) ⌝ }
+{
     let mut n = 0;
     for _ in 0..FILE_BYTES {
         if n >= bytes.len() {
@@ -31,7 +35,9 @@ fn fill(file: &mut File, bytes: &mut [u8]) -> io::Result<usize> {
 }
 
 // The front of a file; a missing file counts as empty.
-fn read_front(rt: &LibcRuntime, path: &str, bytes: &mut [u8]) -> io::Result<usize> {
+fn read_front(rt: &LibcRuntime, path: &str, bytes: &mut [u8]) -> io::Result<usize>
+    ensures { λ r. ⌜ made r (λ n. n ≤ length (now (bytes .entry))) ⌝ }
+{
     match File::open(rt, path) {
         Ok(mut file) => fill(&mut file, bytes),
         Err(e) => {
@@ -46,7 +52,7 @@ fn read_front(rt: &LibcRuntime, path: &str, bytes: &mut [u8]) -> io::Result<usiz
 
 fn list_pins(rt: &LibcRuntime) -> Result<(), AnyError> {
     let mut pins = [0; FILE_BYTES];
-    let n = read_front(rt, "pins.bin", &mut pins)?.min(FILE_BYTES);
+    let n = read_front(rt, "pins.bin", &mut pins)?;
     let mut text = [0; TEXT_BYTES];
     match write_pins_text(&pins[0..n], &mut text) {
         Ok(length) => {

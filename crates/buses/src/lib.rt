@@ -1,0 +1,30 @@
+// Buses: what a core reads its code from, and its data from and to.
+mod bus;
+mod combined;
+mod fence;
+mod page;
+mod refusal;
+mod shift;
+mod split;
+
+pub use bus::Bus;
+pub use bus::BusFault;
+pub use bus::BusFaultDebug;
+pub use bus::BusFaultEq;
+pub use bus::BusFaultPartialEq;
+pub use bus::exchange;
+pub use combined::CombinedBus;
+pub use combined::CombinedIsBus;
+pub use fence::Fence;
+pub use fence::FenceIsBus;
+pub use page::Page;
+pub use page::PageIsBus;
+pub use refusal::Refusal;
+pub use refusal::RefusalDebug;
+pub use refusal::RefusalEq;
+pub use refusal::RefusalPartialEq;
+pub use refusal::Rejected;
+pub use shift::Shift;
+pub use shift::ShiftIsBus;
+pub use split::SplitBus;
+pub use split::SplitIsBus;

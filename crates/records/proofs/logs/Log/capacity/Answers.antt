@@ -1,6 +1,0 @@
-use native.Mathlib.Omega.{arith}
-use lib.ListN.{length-take, length-drop}
-use Rattle.records.proofs.logs.Log.capacity.Needs as need
-
-pub returns : need.returns
-returns g c = simp (length-take, length-drop) (omega arith)
