@@ -12,7 +12,7 @@ use Rattle.std.proofs.shelf.Ways.{tells}
 use Rattle.std.proofs.shelf.Tests.{cases-lt}
 use Rattle.arithmetic.proofs.Bytes.{every, holds-at, agree}
 use Rattle.instructions.specs.declared.Instruction.{Instruction}
-use Rattle.instructions.specs.declared.tables.Interrupt.the-variants.{External0, Timer0, External1, Timer1, Serial}
+use Rattle.records.specs.declared.traces.Source.the-variants.{External0, Timer0, External1, Timer1, Serial}
 use Rattle.instructions.specs.Decode.{decode-of, decode-steps}
 use Rattle.instructions.specs.Operands.{polls-of}
 use Rattle.instructions.specs.Sizes.{size-of}

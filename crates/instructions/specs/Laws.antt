@@ -8,11 +8,12 @@ use lib.Dec.{ltb}
 use lib.ListN.{length}
 use Rattle.std.specs.declared.option.Option.the-variants.{Some, None}
 use Rattle.instructions.specs.declared.Instruction.{Instruction}
-use Rattle.instructions.specs.declared.tables.Interrupt.{Interrupt}
+use Rattle.records.specs.declared.traces.Source.{Source as Interrupt}
+use Rattle.records.specs.Trace.{source-number}
 use Rattle.instructions.specs.Decode.{decode-of}
 use Rattle.instructions.specs.Operands.{polls-of}
 use Rattle.instructions.specs.Sizes.{size-of}
-use Rattle.instructions.specs.Tables.{length-of, cycles-of, registers, number-of, vector-of}
+use Rattle.instructions.specs.Tables.{length-of, cycles-of, registers, vector-of}
 
 -- every instruction has 1 to 3 bytes
 abbrev pub Lengths : Type 0
@@ -34,7 +35,7 @@ Registers = (length registers ≡ 20) × (rising 0x7f registers ≡ true)
 
 -- a vector is 8 above the one before, from 0003H on
 abbrev pub Vectors : Type 0
-Vectors = (i : Interrupt) → vector-of i + 5 ≡ 8 * number-of i
+Vectors = (i : Interrupt) → vector-of i + 5 ≡ 8 * source-number i
 
 -- only A5H is no instruction
 abbrev pub Reserved : Type 0

@@ -4,8 +4,8 @@ use mathlib.Core.Bool.{Bool, false, _||_}
 use mathlib.Core.List.{List, [], _∷_}
 use lib.Dec.{eqb}
 use lib.ListN.{getD}
-use Rattle.instructions.specs.declared.tables.Interrupt.{Interrupt}
-use Rattle.instructions.specs.declared.tables.Interrupt.the-variants.{External0, Timer0, External1, Timer1, Serial}
+use Rattle.records.specs.declared.traces.Source.{Source}
+use Rattle.records.specs.declared.traces.Source.the-variants.{External0, Timer0, External1, Timer1, Serial}
 
 -- a row of the opcode map, by the low digit of the opcode: 6 and 7 are alike, and 8 to F
 abbrev pub row : (e0 e1 e2 e3 e4 e5 e6 e8 : ℕ) → List ℕ
@@ -78,16 +78,8 @@ has (x ∷ xs) a = eqb x a || has xs a
 abbrev pub is-register-of : ℕ → Bool
 is-register-of address = has registers address
 
--- the number of a source, as records have it
-abbrev pub number-of : Interrupt → ℕ
-number-of External0 = 1
-number-of Timer0 = 2
-number-of External1 = 3
-number-of Timer1 = 4
-number-of Serial = 5
-
--- the address of a source's service
-abbrev pub vector-of : Interrupt → ℕ
+-- where the service of each interrupt source begins
+abbrev pub vector-of : Source → ℕ
 vector-of External0 = 0x0003
 vector-of Timer0 = 0x000b
 vector-of External1 = 0x0013

@@ -1,6 +1,7 @@
 // Intel's tables: length and machine cycles of each opcode, the register addresses, the vectors of the interrupt sources.
 ghost use mathlib.Core.Path.{_≡_};
-ghost use Rattle.instructions.specs.Tables.{length-of, cycles-of, is-register-of, number-of, vector-of};
+ghost use Rattle.instructions.specs.Tables.{length-of, cycles-of, is-register-of, vector-of};
+use records::traces::Source;
 
 // By the high and the low digit of the opcode. A5H, which is no instruction, counts as one byte and one cycle.
 const LENGTHS: [[u8; 16]; 16] = [
@@ -68,36 +69,11 @@ const REGISTERS: [u8; 20] = [
 // The vectors by source.
 const VECTORS: [u16; 5] = [0x0003, 0x000b, 0x0013, 0x001b, 0x0023];
 
-// The sources of interrupt requests, in the order in which a poll takes them.
-#[derive(Clone, Copy)]
-pub enum Interrupt {
-    External0,
-    Timer0,
-    External1,
-    Timer1,
-    Serial,
-}
-
-impl Interrupt {
-    // The source's number, 1 to 5.
-    pub fn number(self) -> u8
-        ensures { λ r. ⌜ r ≡ number-of self ⌝ }
-    {
-        match self {
-            Interrupt::External0 => 1,
-            Interrupt::Timer0 => 2,
-            Interrupt::External1 => 3,
-            Interrupt::Timer1 => 4,
-            Interrupt::Serial => 5,
-        }
-    }
-
-    // The address that its service begins at.
-    pub fn vector(self) -> u16
-        ensures { λ r. ⌜ r ≡ vector-of self ⌝ }
-    {
-        VECTORS[self as usize]
-    }
+// The address that the service of an interrupt source begins at.
+pub fn vector(source: Source) -> u16
+    ensures { λ r. ⌜ r ≡ vector-of source ⌝ }
+{
+    VECTORS[source as usize]
 }
 
 // The bytes of an instruction, by its opcode.

@@ -1,3 +1,1 @@
 pub mod Growth
-pub mod Reading
-pub mod Writing

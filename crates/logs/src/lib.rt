@@ -1,4 +1,2 @@
-// Logs of records in lent memory, whole files of records, and their text: docs/RECORDS.md.
-pub mod files;
+// Logs of records in lent memory: docs/RECORDS.md.
 pub mod log;
-pub mod text;

@@ -4,3 +4,4 @@ pub mod Bytes
 pub mod Pin
 pub mod PortWrite
 pub mod Trace
+pub mod Order

@@ -1,10 +1,10 @@
 // Examples for the crate records: every refusal's number, and the edges.
 #[cfg(test)]
 mod tests {
-    use logs::files::take_up;
-    use logs::files::write_records;
     use logs::log::Log;
-    use logs::text::write_pins_text;
+    use record_files::reader::take_up;
+    use record_files::text::write_pins_text;
+    use record_files::writer::write_records;
     use records::pins::PinRecord;
     use records::pins::PinRecordRecord;
     use records::port_writes::PortRecord;

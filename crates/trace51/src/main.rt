@@ -1,5 +1,5 @@
 // Reads pins.bin and prints its pin records, and what stopped them: docs/RECORDS.md.
-use logs::text::write_pins_text;
+use record_files::text::write_pins_text;
 ghost use Prim.Native.Nat.{_≤_};
 ghost use lib.ListN.{length};
 ghost use Rattle.std.specs.Vec.{made};
