@@ -1,0 +1,14 @@
+pub mod Values
+pub mod Arithmetic
+pub mod Logical
+pub mod Jumps
+pub mod Boolean
+pub mod Control
+pub mod External
+pub mod Transfer
+pub mod Effect
+pub mod Fetch
+pub mod Told
+pub mod Execute
+pub mod Laws
+pub mod Cases
