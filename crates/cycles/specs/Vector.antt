@@ -46,7 +46,7 @@ acknowledged-of Serial tcon = tcon
 abbrev pub enter-of : ℕ → Registers → Result (Unit {0} × Registers) Fault
 enter-of address r = then (push-address-of r (r .pc)) (λ x. Ok (tt, with-pc (x .1) address))
 
--- the request's flag, where the call clears it
+-- the flag of the request, where the call clears it
 abbrev pub flag-cleared : Source → Chip → Chip
 flag-cleared s c = with-timers c (with-tcon (c .timers) (acknowledged-of s (c .timers .tcon)))
 
