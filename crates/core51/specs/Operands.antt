@@ -17,6 +17,7 @@ use Rattle.core51.specs.declared.state.Registers.{Registers}
 use Rattle.core51.specs.declared.state.Chip.{Chip}
 use Rattle.core51.specs.Places.{place-of, latch-of, pins-of, write-of}
 
+-- the operand is a RAM byte by an address in R0 or R1
 abbrev pub is-indirect : Option Operand → Bool
 is-indirect None = false
 is-indirect (Some Accumulator) = false
@@ -30,6 +31,7 @@ abbrev pub named-of : Registers → Option Operand → Result (Option Place) Fau
 named-of r None = Ok None
 named-of r (Some o) = then (place-of r o) (λ p. Ok (Some p))
 
+-- target and source
 abbrev pub two-places : Option Place → Option Place → Places
 two-places t s = record { target = t; source = s }
 

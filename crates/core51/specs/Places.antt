@@ -87,6 +87,7 @@ get-table c address =
     (cond (eqb address 0xf0) (c .registers .b)
     0)))))))))))))))))))
 
+-- the same under a name that proofs do not look into unless they say so
 unfoldable pub get-of : Chip → ℕ → ℕ
 get-of c address = get-table c address
 
@@ -126,6 +127,7 @@ put-table c address byte =
     (cond (eqb address 0xf0) (with-registers c (with-b (c .registers) byte))
     c)))))))))))))))))))
 
+-- the same under a name that proofs do not look into unless they say so
 unfoldable pub put-of : Chip → ℕ → ℕ → Chip
 put-of c address byte = put-table c address byte
 

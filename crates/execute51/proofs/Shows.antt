@@ -433,7 +433,7 @@ an-opcode op x y i e =
 cycles-some : (op : ℕ) → op < 256 → (0 < cycles-of op) × (cycles-of op ≤ 4)
 cycles-some op h = elim (cycles-hold op h) [ inl k ↦ (omega (arith, k .0), omega (arith, k .1)) | inr k ↦ (omega (arith, k .0), omega (arith, k .0)) ]
 
-abbrev Shown-at : Chip → Memory → Told × (Chip × Memory) → Type 0
+abbrev pub Shown-at : Chip → Memory → Told × (Chip × Memory) → Type 0
 Shown-at c m x = Shown c m (x .0) (x .1 .0) (x .1 .1)
 
 decoded-told : {S : Type 0} (levels : Pins S) (o : Option Instruction) (f : Fetched) (c : Chip) (m : Memory)

@@ -22,9 +22,11 @@ use Rattle.execute51.specs.Control.{control-of}
 abbrev pub inside-chip : Option ℕ → ℕ → Answer
 inside-chip b n = record { byte = b; next = n; access = Nothing }
 
+-- with an access to external data, or none
 abbrev pub answers : Option ℕ → ℕ → Access → Answer
 answers b n a = record { byte = b; next = n; access = a }
 
+-- what is answered, the registers and the memory; or a refusal
 abbrev pub Effect : Type 0
 Effect = Result (Answer × (Registers × Memory)) Fault
 
@@ -45,5 +47,6 @@ effect-steps (Transfer i) next target source r m =
 effect-steps (Boolean i) next target source r m = jumping m (boolean-of i next target source r)
 effect-steps (Control i) next target source r m = then (control-of i next target source r) (λ x. jumping m x)
 
+-- the same under a name that proofs do not look into unless they say so
 unfoldable pub effect-of : Instruction → ℕ → ℕ → ℕ → Registers → Memory → Effect
 effect-of i next target source r m = effect-steps i next target source r m

@@ -30,6 +30,7 @@ use Rattle.execute51.specs.Effect.{effect-of}
 use Rattle.execute51.specs.Fetch.{fetch-of}
 use Rattle.execute51.specs.Told.{done-of, told-of}
 
+-- of the moves, XCH alone
 abbrev pub is-exchange-transfer : TransferGroup → Bool
 is-exchange-transfer (Mov t s) = false
 is-exchange-transfer (MovDptr n) = false
@@ -69,6 +70,7 @@ perform-steps levels i next c m =
     then (effect-of i next (target-byte levels c i (p .target)) (read-of levels c (p .source)) (c .registers) m) (λ x.
     Ok (done-of (p .target) (x .0), (after c (p .target) (x .0) (x .1 .0), x .1 .1))))
 
+-- the same under a name that proofs do not look into unless they say so
 unfoldable pub perform-of : {S : Type 0} → Pins S → Instruction → ℕ → Chip → Memory → Result (Done × (Chip × Memory)) Fault
 perform-of levels i next c m = perform-steps levels i next c m
 
@@ -82,9 +84,11 @@ abbrev pub instruction-steps : {S : Type 0} → Pins S → Chip → Memory → R
 instruction-steps levels c m =
     then (fetch-of m (c .registers .pc)) (λ f. decoded (decode-of (f .opcode) (f .first) (f .second)) f levels c m)
 
+-- the same under a name that proofs do not look into unless they say so
 unfoldable pub instruction-of : {S : Type 0} → Pins S → Chip → Memory → Result (Told × (Chip × Memory)) Fault
 instruction-of levels c m = instruction-steps levels c m
 
+-- the parity of A computed
 abbrev pub settled-chip : Chip → Chip
 settled-chip c = with-registers c (settled-of (c .registers))
 
@@ -92,5 +96,6 @@ settled-chip c = with-registers c (settled-of (c .registers))
 abbrev pub execute-steps : {S : Type 0} → Pins S → Chip → Memory → Result (Told × (Chip × Memory)) Fault
 execute-steps levels c m = then (instruction-of levels c m) (λ x. Ok (x .0, (settled-chip (x .1 .0), x .1 .1)))
 
+-- the same under a name that proofs do not look into unless they say so
 unfoldable pub execute-of : {S : Type 0} → Pins S → Chip → Memory → Result (Told × (Chip × Memory)) Fault
 execute-of levels c m = execute-steps levels c m

@@ -17,6 +17,7 @@ abbrev pub fault-of : BusFault → Fault
 fault-of NotFitted = DataNotFitted
 fault-of Fenced = DataFenced
 
+-- a refusal of the bus, at external data and at code
 abbrev pub as-data : {A : Type 0} → Result A BusFault → Result A Fault
 as-data (Ok x) = Ok x
 as-data (Err fault) = Err (fault-of fault)
@@ -33,6 +34,7 @@ code-of m address = as-code (answer (m .code address))
 abbrev pub data-of : Memory → ℕ → Result ℕ Fault
 data-of m address = as-data (answer (m .store address))
 
+-- a byte of external data written
 abbrev pub write-data-of : Memory → ℕ → ℕ → Result (Unit {0} × Memory) Fault
 write-data-of m address byte = as-data (write-of m address byte)
 

@@ -27,5 +27,6 @@ fetch-steps m pc =
     then (operand-byte m pc (length-of op) 2) (λ y.
     Ok (record { opcode = op; first = x; second = y; next = ahead pc (length-of op) }))))
 
+-- the same under a name that proofs do not look into unless they say so
 unfoldable pub fetch-of : Memory → ℕ → Result Fetched Fault
 fetch-of m pc = fetch-steps m pc

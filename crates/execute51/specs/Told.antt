@@ -24,9 +24,11 @@ port-write-of (Some p) None = None
 port-write-of None (Some b) = None
 port-write-of None None = None
 
+-- the port write and the access of what an effect answers
 abbrev pub done-of : Option Place → Answer → Done
 done-of place e = record { port = port-write-of place (e .byte); access = e .access }
 
+-- all that is told, by opcode, instruction and what was done
 abbrev pub told-of : ℕ → Instruction → Done → Told
 told-of op i d = record {
   opcode = op;
