@@ -1,5 +1,7 @@
 // The arithmetic of the 8051 on bytes and addresses: pure functions that answer plain numbers.
 // Flags stand as in PSW: carry in bit 7, auxiliary carry in bit 6, overflow in bit 2.
+#![tactic(auto)]
+
 pub mod addresses;
 pub mod bits;
 pub mod laws;

@@ -1,4 +1,6 @@
 // Examples of the arithmetic: those that Intel prints with its instructions, and the edges.
+#![tactic(auto)]
+
 #[cfg(test)]
 mod tests {
     use arithmetic::addresses::*;

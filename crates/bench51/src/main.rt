@@ -1,4 +1,6 @@
 // Times the call run on three programs: docs/SPEED.md. Without an argument each program makes one run, and no time is printed.
+#![tactic(auto)]
+
 mod hex;
 mod programs;
 mod timing;

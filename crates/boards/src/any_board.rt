@@ -5,7 +5,7 @@ use crate::board::Board;
 
 // The levels of the four ports.
 pub fn levels<D: Board>(board: &D) -> [u8; 4]
-    ensures { result ≡ four_levels (pins board.now) }
+    ensures { result ≡ four_levels (D.pins board.now) }
 {
     [
         board.level(0),
@@ -17,8 +17,8 @@ pub fn levels<D: Board>(board: &D) -> [u8; 4]
 
 // So many machine cycles pass.
 pub fn pass<D: Board>(board: &mut D, cycles: u32)
-    ensures value { pins board.new ≡ after D.Board.next cycles (pins board.old) }
-    ensures keeps { (pins board.new).driven ≡ (pins board.old).driven }
+    ensures value { D.pins board.new ≡ after D.next cycles (D.pins board.old) }
+    ensures keeps { (D.pins board.new).driven ≡ (D.pins board.old).driven }
 {
     for _i in 0..cycles {
         board.tick();

@@ -1,4 +1,6 @@
 // What hangs on the port pins: docs/BOARDS.md.
+#![tactic(auto)]
+
 pub mod any_board;
 pub mod board;
 pub mod loopback;

@@ -1,4 +1,6 @@
 // Both boards at their edges.
+#![tactic(auto)]
+
 #[cfg(test)]
 mod both;
 #[cfg(test)]

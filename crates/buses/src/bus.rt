@@ -32,9 +32,9 @@ pub trait Bus {
 
 // Writes the data byte at an address and answers the one that was there.
 pub fn exchange<B: Bus>(bus: &mut B, address: u16, byte: u8) -> Result<u8, BusFault>
-    ensures exchanged { (result, memory bus.new) ≡ kept (memory bus.old) (exchange_of (memory bus.old) address byte) }
+    ensures exchanged { (result, B.memory bus.new) ≡ kept (B.memory bus.old) (exchange_of (B.memory bus.old) address byte) }
     ensures stands { FittingStands }
-    ensures fitting { SameFitting (memory bus.old) (memory bus.new) }
+    ensures fitting { SameFitting (B.memory bus.old) (B.memory bus.new) }
 {
     let before = bus.read(address)?;
     bus.write(address, byte)?;

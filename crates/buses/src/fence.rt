@@ -16,7 +16,7 @@ pub struct Fence<B> {
 impl<B: Bus> Fence<B> {
     // The bus below, with the data from the first to the last address unwritable.
     pub fn new(below: B, first: u16, last: u16) -> Result<Fence<B>, Rejected<B>>
-        ensures { meaning_of (fence_memory B.Bus.memory) result ≡ fence_of B.Bus.memory below first last }
+        ensures { meaning_of (fence_memory B.memory) result ≡ fence_of B.memory below first last }
     {
         if first <= last {
             Ok(Fence { below, first, last })

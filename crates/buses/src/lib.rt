@@ -1,4 +1,6 @@
 // Buses: what a core reads its code from, and its data from and to.
+#![tactic(auto)]
+
 mod bus;
 mod combined;
 mod fence;

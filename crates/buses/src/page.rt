@@ -15,7 +15,7 @@ pub struct Page<B> {
 impl<B: Bus> Page<B> {
     // The bus below, with 256 data bytes 00H at the addresses with this high byte.
     pub fn new(below: B, page: u8) -> Page<B>
-        ensures { page_memory B.Bus.memory result ≡ paged page (replicate 256 0) (B.Bus.memory below) }
+        ensures { page_memory B.memory result ≡ paged page (replicate 256 0) (B.memory below) }
     {
         Page {
             below,

@@ -14,7 +14,7 @@ pub struct Shift<B> {
 impl<B: Bus> Shift<B> {
     // The bus below, with this number added to every address.
     pub fn new(below: B, by: u16) -> Shift<B>
-        ensures { shift_memory B.Bus.memory result ≡ shifted by (B.Bus.memory below) }
+        ensures { shift_memory B.memory result ≡ shifted by (B.memory below) }
     {
         Shift { below, by }
     }

@@ -1,4 +1,6 @@
 // Tests of the buses and of their layers, alone and piled.
+#![tactic(auto)]
+
 #[cfg(test)]
 mod access;
 #[cfg(test)]

@@ -13,7 +13,7 @@ pub fn shift_page_fence<B: Bus>(
     page: u8,
     by: u16,
 ) -> Result<Shift<Page<Fence<B>>>, Rejected<B>>
-    ensures { meaning_of (shift_memory (page_memory (fence_memory B.Bus.memory))) result ≡ then (fence_of B.Bus.memory bus first last) (λ m. Ok (shifted by (paged page (replicate 256 0) m))) }
+    ensures { meaning_of (shift_memory (page_memory (fence_memory B.memory))) result ≡ then (fence_of B.memory bus first last) (λ m. Ok (shifted by (paged page (replicate 256 0) m))) }
 {
     Ok(Shift::new(Page::new(Fence::new(bus, first, last)?, page), by))
 }

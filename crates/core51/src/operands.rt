@@ -64,7 +64,7 @@ impl Chip {
 
     // What a named place shows; of a port the pins.
     pub fn read<D: Board>(&self, place: Option<Place>, board: &D) -> u8
-        ensures { result ≡ read_of (pins board.now) self.now place }
+        ensures { result ≡ read_of (D.pins board.now) self.now place }
     {
         match place {
             Some(place) => self.pins(place, board),

@@ -184,7 +184,7 @@ impl Chip {
 
     // What a place shows; of a port the pins.
     pub(crate) fn pins<D: Board>(&self, place: Place, board: &D) -> u8
-        ensures { result ≡ pins_of (pins board.now) self.now place }
+        ensures { result ≡ pins_of (D.pins board.now) self.now place }
     {
         let byte = self.latch(place);
         match place.port() {

@@ -87,7 +87,7 @@ impl Machine {
     }
 
     fn cycle_steps<D: Board>(&mut self, board: &mut D, polls: bool)
-        ensures { (state_of self.new, pins board.new) ≡ cycle_steps D.Board.next polls (state_of self.old, pins board.old) }
+        ensures { (state_of self.new, D.pins board.new) ≡ cycle_steps D.next polls (state_of self.old, D.pins board.old) }
     {
         if polls {
             self.poll();
@@ -99,14 +99,14 @@ impl Machine {
 
     // One machine cycle; the last cycle of a step polls, if the step does.
     pub fn cycle<D: Board>(&mut self, board: &mut D, polls: bool)
-        ensures { (state_of self.new, pins board.new) ≡ cycle_of D.Board.next polls (state_of self.old, pins board.old) }
+        ensures { (state_of self.new, D.pins board.new) ≡ cycle_of D.next polls (state_of self.old, D.pins board.old) }
     {
         self.cycle_steps(board, polls);
     }
 
     // The machine cycles of a step, at least one.
     pub fn run_cycles<D: Board>(&mut self, board: &mut D, count: u8, polls: bool)
-        ensures { (state_of self.new, pins board.new) ≡ cycles_of D.Board.next count polls (state_of self.old, pins board.old) }
+        ensures { (state_of self.new, D.pins board.new) ≡ cycles_of D.next count polls (state_of self.old, D.pins board.old) }
     {
         for _i in 0..count.saturating_sub(1) {
             self.cycle(board, false);

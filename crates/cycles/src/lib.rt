@@ -1,4 +1,6 @@
 // The machine cycle: timers, external flags, sample, poll and vector call: docs/TIMERS.md and docs/INTERRUPTS.md.
+#![tactic(auto)]
+
 pub mod cycle;
 pub mod flags;
 pub mod laws;

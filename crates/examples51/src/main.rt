@@ -1,5 +1,7 @@
 // Runs the worked examples of Intel's description of the 8051, which the standard input lists, and tells of each one whether the core
 // leaves what is printed there.
+#![tactic(auto)]
+
 mod compare;
 mod levels;
 mod problem;

@@ -36,7 +36,7 @@ fn effect_steps<B: Bus>(
     target: u8,
     source: u8,
 ) -> Result<Answer, Fault>
-    ensures { (result, (registers.new, memory bus.new)) ≡ kept (registers.old, memory bus.old) (effect_steps i next target source registers.old (memory bus.old)) }
+    ensures { (result, (registers.new, B.memory bus.new)) ≡ kept (registers.old, B.memory bus.old) (effect_steps i next target source registers.old (B.memory bus.old)) }
 {
     match i {
         Instruction::Arithmetic(i) => {
@@ -71,7 +71,7 @@ pub(crate) fn effect<B: Bus>(
     target: u8,
     source: u8,
 ) -> Result<Answer, Fault>
-    ensures { (result, (registers.new, memory bus.new)) ≡ kept (registers.old, memory bus.old) (effect_of i next target source registers.old (memory bus.old)) }
+    ensures { (result, (registers.new, B.memory bus.new)) ≡ kept (registers.old, B.memory bus.old) (effect_of i next target source registers.old (B.memory bus.old)) }
 {
     effect_steps(registers, bus, i, next, target, source)
 }

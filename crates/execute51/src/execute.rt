@@ -29,7 +29,7 @@ fn is_exchange(i: Instruction) -> bool
 
 // The byte of the target, before the instruction.
 fn target_byte<D: Board>(chip: &Chip, board: &D, i: Instruction, place: Option<Place>) -> u8
-    ensures { result ≡ target_byte (pins board.now) chip.now i place }
+    ensures { result ≡ target_byte (D.pins board.now) chip.now i place }
 {
     if is_exchange(i) {
         chip.read(place, board)
@@ -45,7 +45,7 @@ fn perform_steps<B: Bus, D: Board>(
     i: Instruction,
     next: u16,
 ) -> Result<Done, Fault>
-    ensures { (result, (chip.new, memory bus.new)) ≡ kept (chip.old, memory bus.old) (perform_steps (pins board.now) i next chip.old (memory bus.old)) }
+    ensures { (result, (chip.new, B.memory bus.new)) ≡ kept (chip.old, B.memory bus.old) (perform_steps (D.pins board.now) i next chip.old (B.memory bus.old)) }
 {
     let places = chip.registers.places(i.operands())?;
     let target = target_byte(chip, board, i, places.target);
@@ -67,7 +67,7 @@ fn perform<B: Bus, D: Board>(
     i: Instruction,
     next: u16,
 ) -> Result<Done, Fault>
-    ensures { (result, (chip.new, memory bus.new)) ≡ kept (chip.old, memory bus.old) (perform_of (pins board.now) i next chip.old (memory bus.old)) }
+    ensures { (result, (chip.new, B.memory bus.new)) ≡ kept (chip.old, B.memory bus.old) (perform_of (D.pins board.now) i next chip.old (B.memory bus.old)) }
 {
     perform_steps(chip, bus, board, i, next)
 }
@@ -77,7 +77,7 @@ fn instruction_steps<B: Bus, D: Board>(
     bus: &mut B,
     board: &D,
 ) -> Result<Told, Fault>
-    ensures { (result, (chip.new, memory bus.new)) ≡ kept (chip.old, memory bus.old) (instruction_steps (pins board.now) chip.old (memory bus.old)) }
+    ensures { (result, (chip.new, B.memory bus.new)) ≡ kept (chip.old, B.memory bus.old) (instruction_steps (D.pins board.now) chip.old (B.memory bus.old)) }
 {
     let fetched = fetch(bus, chip.registers.pc)?;
     let Some(i) = decode(fetched.opcode, fetched.first, fetched.second) else {
@@ -96,13 +96,13 @@ fn instruction_steps<B: Bus, D: Board>(
 
 // The instruction at PC, but for the parity of A.
 fn instruction<B: Bus, D: Board>(chip: &mut Chip, bus: &mut B, board: &D) -> Result<Told, Fault>
-    ensures { (result, (chip.new, memory bus.new)) ≡ kept (chip.old, memory bus.old) (instruction_of (pins board.now) chip.old (memory bus.old)) }
+    ensures { (result, (chip.new, B.memory bus.new)) ≡ kept (chip.old, B.memory bus.old) (instruction_of (D.pins board.now) chip.old (B.memory bus.old)) }
 {
     instruction_steps(chip, bus, board)
 }
 
 fn execute_steps<B: Bus, D: Board>(core: &mut Core, bus: &mut B, board: &D) -> Result<Told, Fault>
-    ensures { (result, (core.new.chip, memory bus.new)) ≡ kept (core.old.chip, memory bus.old) (execute_steps (pins board.now) core.old.chip (memory bus.old)) }
+    ensures { (result, (core.new.chip, B.memory bus.new)) ≡ kept (core.old.chip, B.memory bus.old) (execute_steps (D.pins board.now) core.old.chip (B.memory bus.old)) }
 {
     let told = instruction(&mut core.chip, bus, board)?;
     core.chip.registers.settle();
@@ -111,8 +111,8 @@ fn execute_steps<B: Bus, D: Board>(core: &mut Core, bus: &mut B, board: &D) -> R
 
 // The instruction at PC: what it tells, or why it is refused, with nothing changed.
 pub fn execute<B: Bus, D: Board>(core: &mut Core, bus: &mut B, board: &D) -> Result<Told, Fault>
-    ensures effect { (result, (core.new.chip, memory bus.new)) ≡ kept (core.old.chip, memory bus.old) (execute_of (pins board.now) core.old.chip (memory bus.old)) }
-    ensures shows { Shows core.old.chip (memory bus.old) result core.new.chip (memory bus.new) }
+    ensures effect { (result, (core.new.chip, B.memory bus.new)) ≡ kept (core.old.chip, B.memory bus.old) (execute_of (D.pins board.now) core.old.chip (B.memory bus.old)) }
+    ensures shows { Shows core.old.chip (B.memory bus.old) result core.new.chip (B.memory bus.new) }
 {
     execute_steps(core, bus, board)
 }

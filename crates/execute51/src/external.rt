@@ -28,7 +28,7 @@ fn data_fault(fault: BusFault) -> Fault
 
 // A byte of the code.
 pub(crate) fn code<B: Bus>(bus: &B, address: u16) -> Result<u8, Fault>
-    ensures { result ≡ code_of (memory bus.now) address }
+    ensures { result ≡ code_of (B.memory bus.now) address }
 {
     match bus.code(address) {
         Ok(byte) => Ok(byte),
@@ -38,7 +38,7 @@ pub(crate) fn code<B: Bus>(bus: &B, address: u16) -> Result<u8, Fault>
 
 // A byte of external data.
 pub(crate) fn read<B: Bus>(bus: &B, address: u16) -> Result<u8, Fault>
-    ensures { result ≡ data_of (memory bus.now) address }
+    ensures { result ≡ data_of (B.memory bus.now) address }
 {
     match bus.read(address) {
         Ok(byte) => Ok(byte),
@@ -47,7 +47,7 @@ pub(crate) fn read<B: Bus>(bus: &B, address: u16) -> Result<u8, Fault>
 }
 
 pub(crate) fn write<B: Bus>(bus: &mut B, address: u16, byte: u8) -> Result<(), Fault>
-    ensures { (result, memory bus.new) ≡ kept (memory bus.old) (write_data_of (memory bus.old) address byte) }
+    ensures { (result, B.memory bus.new) ≡ kept (B.memory bus.old) (write_data_of (B.memory bus.old) address byte) }
 {
     match bus.write(address, byte) {
         Ok(()) => Ok(()),

@@ -17,7 +17,7 @@ pub(crate) struct Fetched {
 }
 
 fn operand<B: Bus>(bus: &B, pc: u16, size: u8, k: u8) -> Result<u8, Fault>
-    ensures { result ≡ operand_byte (memory bus.now) pc size k }
+    ensures { result ≡ operand_byte (B.memory bus.now) pc size k }
 {
     if k < size {
         code(bus, pc.wrapping_add(k as u16))
@@ -27,7 +27,7 @@ fn operand<B: Bus>(bus: &B, pc: u16, size: u8, k: u8) -> Result<u8, Fault>
 }
 
 fn fetch_steps<B: Bus>(bus: &B, pc: u16) -> Result<Fetched, Fault>
-    ensures { result ≡ fetch_steps (memory bus.now) pc }
+    ensures { result ≡ fetch_steps (B.memory bus.now) pc }
 {
     let opcode = code(bus, pc)?;
     let size = length(opcode);
@@ -44,7 +44,7 @@ fn fetch_steps<B: Bus>(bus: &B, pc: u16) -> Result<Fetched, Fault>
 
 // The bytes of the instruction at an address.
 pub(crate) fn fetch<B: Bus>(bus: &B, pc: u16) -> Result<Fetched, Fault>
-    ensures { result ≡ fetch_of (memory bus.now) pc }
+    ensures { result ≡ fetch_of (B.memory bus.now) pc }
 {
     fetch_steps(bus, pc)
 }

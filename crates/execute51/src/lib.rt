@@ -1,4 +1,6 @@
 // The effect of every instruction: docs/CORE.md.
+#![tactic(auto)]
+
 mod arithmetic;
 mod boolean;
 pub mod cases;

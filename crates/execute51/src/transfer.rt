@@ -15,7 +15,7 @@ use instructions::{External, Transfer};
 
 // A code byte into A, from a base address plus A.
 fn look_up<B: Bus>(registers: &mut Registers, bus: &B, base: u16) -> Result<Option<u8>, Fault>
-    ensures { (result, registers.new) ≡ kept registers.old (look_up_of base registers.old (memory bus.now)) }
+    ensures { (result, registers.new) ≡ kept registers.old (look_up_of base registers.old (B.memory bus.now)) }
 {
     let byte = external::code(bus, indexed(base, registers.a))?;
     registers.a = byte;
@@ -24,7 +24,7 @@ fn look_up<B: Bus>(registers: &mut Registers, bus: &B, base: u16) -> Result<Opti
 
 // A byte of external data into A.
 fn movx_read<B: Bus>(registers: &mut Registers, bus: &B, from: External) -> Result<Access, Fault>
-    ensures { (result, registers.new) ≡ kept registers.old (movx_read_of from registers.old (memory bus.now)) }
+    ensures { (result, registers.new) ≡ kept registers.old (movx_read_of from registers.old (B.memory bus.now)) }
 {
     let address = external::address(registers, from);
     let byte = external::read(bus, address)?;
@@ -34,7 +34,7 @@ fn movx_read<B: Bus>(registers: &mut Registers, bus: &B, from: External) -> Resu
 
 // A into external data.
 fn movx_write<B: Bus>(registers: &Registers, bus: &mut B, to: External) -> Result<Access, Fault>
-    ensures { (result, memory bus.new) ≡ kept (memory bus.old) (movx_write_of to registers.now (memory bus.old)) }
+    ensures { (result, B.memory bus.new) ≡ kept (B.memory bus.old) (movx_write_of to registers.now (B.memory bus.old)) }
 {
     let address = external::address(registers, to);
     external::write(bus, address, registers.a)?;
@@ -53,7 +53,7 @@ pub(crate) fn effect<B: Bus>(
     target: u8,
     source: u8,
 ) -> Result<(Option<u8>, Access), Fault>
-    ensures { (result, (registers.new, memory bus.new)) ≡ kept (registers.old, memory bus.old) (transfer_of i next target source registers.old (memory bus.old)) }
+    ensures { (result, (registers.new, B.memory bus.new)) ≡ kept (registers.old, B.memory bus.old) (transfer_of i next target source registers.old (B.memory bus.old)) }
 {
     let byte = match i {
         Transfer::Mov { source: from, .. } => Some(value(from, source)),

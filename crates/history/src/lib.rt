@@ -1,5 +1,7 @@
 // The law of whole histories over an abstract machine. What is meant stands in specs/: Events, Machine, Promise, then what a machine has to
 // show, by steps in Laws and by machine cycles in Cycles.
+#![tactic(auto)]
+
 ghost use Rattle.std.specs.Prelude.{ℕ};
 ghost use Rattle.history.specs.Machine.{Machine};
 ghost use Rattle.history.specs.Laws.{View, MachineLaw, Kept};

@@ -1,4 +1,6 @@
 // The instructions of the 8051: their type, decoding, Intel's tables, and what each instruction names.
+#![tactic(auto)]
+
 pub mod decode;
 pub mod laws;
 pub mod operands;

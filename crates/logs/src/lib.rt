@@ -1,2 +1,4 @@
 // Logs of records in lent memory: docs/RECORDS.md.
+#![tactic(auto)]
+
 pub mod log;

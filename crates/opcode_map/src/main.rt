@@ -1,5 +1,7 @@
 // Lists the opcode map: each opcode with its length and machine cycles, the instruction as the assembler writes it, with 12H and 34H
 // as the bytes after the opcode, and which of its operands, A apart, it writes or only reads.
+#![tactic(auto)]
+
 mod text;
 
 use instructions::decode::decode;

@@ -63,7 +63,7 @@ fn write_refused(stop: u8, out: &mut [u8]) -> Result<usize, Refusal>
 
 // Writes the text of a new core's run on a bus and a board.
 fn write_run<B: Bus>(bus: &mut B, board: &mut Script<'_>, out: &mut [u8]) -> Result<usize, Refusal>
-    ensures { (result, out.new) ≡ kept out.old (printed (text (Ok (ran (memory bus.old) (played_by board.old)))) out.old) }
+    ensures { (result, out.new) ≡ kept out.old (printed (text (Ok (ran (B.memory bus.old) (played_by board.old)))) out.old) }
 {
     let mut trace_places = [TraceRecord {
         kind: StepKind::Instruction { opcode: 0 },
@@ -93,7 +93,7 @@ fn write_traced<B: Bus>(
     records: &[PinRecord],
     out: &mut [u8],
 ) -> Result<usize, Refusal>
-    ensures { (result, out.new) ≡ kept out.old (printed (text (traced (memory bus.old) records.now)) out.old) }
+    ensures { (result, out.new) ≡ kept out.old (printed (text (traced (B.memory bus.old) records.now)) out.old) }
 {
     let mut board = Script::new();
     match board.load(records) {
@@ -105,7 +105,7 @@ fn write_traced<B: Bus>(
 // Writes the text of a run with the pin records of a file, or of the refusal of the file.
 fn write_with_pins<B: Bus>(bus: &mut B, pins: &[u8], out: &mut [u8]) -> Result<usize, Refusal>
     requires { length pins.now ≤ 4096 }
-    ensures { (result, out.new) ≡ kept out.old (printed (text (pins_traced (memory bus.old) pins.now)) out.old) }
+    ensures { (result, out.new) ≡ kept out.old (printed (text (pins_traced (B.memory bus.old) pins.now)) out.old) }
 {
     let mut places = [PinRecord {
         cycle: 0,

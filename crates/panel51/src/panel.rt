@@ -35,7 +35,7 @@ impl Panel51 {
 
     // Resets the core, whose RAM stays, and drives FFH to all four ports.
     pub fn reset<D: Board>(&mut self, board: &mut D)
-        ensures { (m : Memory) → world (panel_state self.new) m (pins board.new) ≡ reset_of (world (panel_state self.old) m (pins board.old)) }
+        ensures { (m : Memory) → world (panel_state self.new) m (D.pins board.new) ≡ reset_of (world (panel_state self.old) m (D.pins board.old)) }
     {
         reset_machine(&mut self.machine);
         drive_high(board);
@@ -47,8 +47,8 @@ impl Panel51 {
         bus: &mut B,
         board: &mut D,
     ) -> Result<(TraceRecord, Option<PortWrite>), Fault>
-        ensures value { (result, world (panel_state self.new) (memory bus.new) (pins board.new)) ≡ kept (world (panel_state self.old) (memory bus.old) (pins board.old)) (step_of D.Board.next (world (panel_state self.old) (memory bus.old) (pins board.old))) }
-        ensures history { StepLives D.Board.next (world (panel_state self.old) (memory bus.old) (pins board.old)) result (world (panel_state self.new) (memory bus.new) (pins board.new)) }
+        ensures value { (result, world (panel_state self.new) (B.memory bus.new) (D.pins board.new)) ≡ kept (world (panel_state self.old) (B.memory bus.old) (D.pins board.old)) (step_of D.next (world (panel_state self.old) (B.memory bus.old) (D.pins board.old))) }
+        ensures history { StepLives D.next (world (panel_state self.old) (B.memory bus.old) (D.pins board.old)) result (world (panel_state self.new) (B.memory bus.new) (D.pins board.new)) }
     {
         step(&mut self.machine, bus, board)
     }

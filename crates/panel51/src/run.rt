@@ -61,7 +61,7 @@ impl Panel51 {
         traces: &mut Log<'_, TraceRecord>,
         ports: &mut Log<'_, PortRecord>,
     ) -> Option<u8>
-        ensures value { (result, session (world (panel_state self.new) (memory bus.new) (pins board.new)) (held traces.new) (held ports.new)) ≡ turn_steps D.Board.next i (session (world (panel_state self.old) (memory bus.old) (pins board.old)) (held traces.old) (held ports.old)) }
+        ensures value { (result, session (world (panel_state self.new) (B.memory bus.new) (D.pins board.new)) (held traces.new) (held ports.new)) ≡ turn_steps D.next i (session (world (panel_state self.old) (B.memory bus.old) (D.pins board.old)) (held traces.old) (held ports.old)) }
         ensures lent { (traces.new.places.ghost_name ≡ traces.old.places.ghost_name) × (ports.new.places.ghost_name ≡ ports.old.places.ghost_name) }
     {
         if traces.is_full() || ports.is_full() {
@@ -86,7 +86,7 @@ impl Panel51 {
         traces: &mut Log<'_, TraceRecord>,
         ports: &mut Log<'_, PortRecord>,
     ) -> Option<u8>
-        ensures value { (result, session (world (panel_state self.new) (memory bus.new) (pins board.new)) (held traces.new) (held ports.new)) ≡ turn_of D.Board.next i (session (world (panel_state self.old) (memory bus.old) (pins board.old)) (held traces.old) (held ports.old)) }
+        ensures value { (result, session (world (panel_state self.new) (B.memory bus.new) (D.pins board.new)) (held traces.new) (held ports.new)) ≡ turn_of D.next i (session (world (panel_state self.old) (B.memory bus.old) (D.pins board.old)) (held traces.old) (held ports.old)) }
         ensures lent { (traces.new.places.ghost_name ≡ traces.old.places.ghost_name) × (ports.new.places.ghost_name ≡ ports.old.places.ghost_name) }
     {
         self.turn_steps(bus, board, i, traces, ports)
@@ -102,10 +102,10 @@ impl Panel51 {
         traces: &mut Log<'_, TraceRecord>,
         ports: &mut Log<'_, PortRecord>,
     ) -> (u32, u8)
-        ensures value { (result, session (world (panel_state self.new) (memory bus.new) (pins board.new)) (held traces.new) (held ports.new)) ≡ run_of D.Board.next n (session (world (panel_state self.old) (memory bus.old) (pins board.old)) (held traces.old) (held ports.old)) }
+        ensures value { (result, session (world (panel_state self.new) (B.memory bus.new) (D.pins board.new)) (held traces.new) (held ports.new)) ≡ run_of D.next n (session (world (panel_state self.old) (B.memory bus.old) (D.pins board.old)) (held traces.old) (held ports.old)) }
         ensures lent { (traces.new.places.ghost_name ≡ traces.old.places.ghost_name) × (ports.new.places.ghost_name ≡ ports.old.places.ghost_name) }
-        ensures lives { Lives D.Board.next }
-        ensures history { RunLives D.Board.next (session (world (panel_state self.old) (memory bus.old) (pins board.old)) (held traces.old) (held ports.old)) n (result, session (world (panel_state self.new) (memory bus.new) (pins board.new)) (held traces.new) (held ports.new)) }
+        ensures lives { Lives D.next }
+        ensures history { RunLives D.next (session (world (panel_state self.old) (B.memory bus.old) (D.pins board.old)) (held traces.old) (held ports.old)) n (result, session (world (panel_state self.new) (B.memory bus.new) (D.pins board.new)) (held traces.new) (held ports.new)) }
     {
         if n > MOST_STEPS {
             return (0, TOO_MANY_STEPS);

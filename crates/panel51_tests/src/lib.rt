@@ -1,4 +1,6 @@
 // The calls new, reset, step and run on both buses, all layers and both boards.
+#![tactic(auto)]
+
 #[cfg(test)]
 mod interrupts;
 #[cfg(test)]

@@ -1,4 +1,6 @@
 // The three kinds of record: docs/RECORDS.md.
+#![tactic(auto)]
+
 pub mod pins;
 pub mod port_writes;
 pub mod ports;

@@ -1,4 +1,6 @@
 // Examples for the crate records: every refusal's number, and the edges.
+#![tactic(auto)]
+
 #[cfg(test)]
 mod tests {
     use logs::log::Log;

@@ -1,4 +1,6 @@
 // Reads code.bin and pins.bin, and prints the trace of a run of 64 steps: docs/MACHINE.md.
+#![tactic(auto)]
+
 ghost use Rattle.std.specs.Prelude.{◌≤◌, length, IfOk};
 
 use anyhow::anyhow;

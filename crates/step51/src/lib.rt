@@ -1,4 +1,6 @@
 // One step, and the reset: docs/MACHINE.md.
+#![tactic(auto)]
+
 pub mod action;
 pub mod reset;
 pub mod step;

@@ -99,7 +99,7 @@ pub fn reset_machine(machine: &mut Machine)
 
 // Drives FFH to all four ports.
 pub fn drive_high<D: Board>(board: &mut D)
-    ensures { pins board.new ≡ all_high (pins board.old) }
+    ensures { D.pins board.new ≡ all_high (D.pins board.old) }
 {
     board.drive(0, 0xFF);
     board.drive(1, 0xFF);

@@ -23,7 +23,7 @@ fn act_steps<B: Bus, D: Board>(
     bus: &mut B,
     board: &D,
 ) -> Result<Action, Fault>
-    ensures { (result, (state_of machine.new, memory bus.new)) ≡ kept (state_of machine.old, memory bus.old) (act_steps (pins board.now) (state_of machine.old) (memory bus.old)) }
+    ensures { (result, (state_of machine.new, B.memory bus.new)) ≡ kept (state_of machine.old, B.memory bus.old) (act_steps (D.pins board.now) (state_of machine.old) (B.memory bus.old)) }
 {
     match machine.interrupts.accepted {
         Some(request) => {
@@ -42,14 +42,14 @@ fn act_steps<B: Bus, D: Board>(
 
 // The vector call of the accepted request, or the instruction at PC.
 fn act<B: Bus, D: Board>(machine: &mut Machine, bus: &mut B, board: &D) -> Result<Action, Fault>
-    ensures { (result, (state_of machine.new, memory bus.new)) ≡ kept (state_of machine.old, memory bus.old) (act_of (pins board.now) (state_of machine.old) (memory bus.old)) }
+    ensures { (result, (state_of machine.new, B.memory bus.new)) ≡ kept (state_of machine.old, B.memory bus.old) (act_of (D.pins board.now) (state_of machine.old) (B.memory bus.old)) }
 {
     act_steps(machine, bus, board)
 }
 
 // Drives a port write to the board.
 fn drive<D: Board>(board: &mut D, write: Option<PortWrite>)
-    ensures { pins board.new ≡ driven_to write (pins board.old) }
+    ensures { D.pins board.new ≡ driven_to write (D.pins board.old) }
 {
     match write {
         Some(write) => board.drive(write.port, write.byte),
@@ -62,7 +62,7 @@ fn begin_steps<B: Bus, D: Board>(
     bus: &mut B,
     board: &mut D,
 ) -> Result<Action, Fault>
-    ensures { (result, world (state_of machine.new) (memory bus.new) (pins board.new)) ≡ kept (world (state_of machine.old) (memory bus.old) (pins board.old)) (begin_steps (world (state_of machine.old) (memory bus.old) (pins board.old))) }
+    ensures { (result, world (state_of machine.new) (B.memory bus.new) (D.pins board.new)) ≡ kept (world (state_of machine.old) (B.memory bus.old) (D.pins board.old)) (begin_steps (world (state_of machine.old) (B.memory bus.old) (D.pins board.old))) }
 {
     if machine.cycles > LAST_START {
         return Err(Fault::TimeOver);
@@ -78,7 +78,7 @@ fn begin<B: Bus, D: Board>(
     bus: &mut B,
     board: &mut D,
 ) -> Result<Action, Fault>
-    ensures { (result, world (state_of machine.new) (memory bus.new) (pins board.new)) ≡ kept (world (state_of machine.old) (memory bus.old) (pins board.old)) (begin_of (world (state_of machine.old) (memory bus.old) (pins board.old))) }
+    ensures { (result, world (state_of machine.new) (B.memory bus.new) (D.pins board.new)) ≡ kept (world (state_of machine.old) (B.memory bus.old) (D.pins board.old)) (begin_of (world (state_of machine.old) (B.memory bus.old) (D.pins board.old))) }
 {
     begin_steps(machine, bus, board)
 }
@@ -112,7 +112,7 @@ fn step_steps<B: Bus, D: Board>(
     bus: &mut B,
     board: &mut D,
 ) -> Result<(TraceRecord, Option<PortWrite>), Fault>
-    ensures { (result, world (state_of machine.new) (memory bus.new) (pins board.new)) ≡ kept (world (state_of machine.old) (memory bus.old) (pins board.old)) (step_steps D.Board.next (world (state_of machine.old) (memory bus.old) (pins board.old))) }
+    ensures { (result, world (state_of machine.new) (B.memory bus.new) (D.pins board.new)) ≡ kept (world (state_of machine.old) (B.memory bus.old) (D.pins board.old)) (step_steps D.next (world (state_of machine.old) (B.memory bus.old) (D.pins board.old))) }
 {
     let pc = machine.core.chip.registers.pc;
     let action = begin(machine, bus, board)?;
@@ -126,7 +126,7 @@ pub fn step<B: Bus, D: Board>(
     bus: &mut B,
     board: &mut D,
 ) -> Result<(TraceRecord, Option<PortWrite>), Fault>
-    ensures { (result, world (state_of machine.new) (memory bus.new) (pins board.new)) ≡ kept (world (state_of machine.old) (memory bus.old) (pins board.old)) (step_of D.Board.next (world (state_of machine.old) (memory bus.old) (pins board.old))) }
+    ensures { (result, world (state_of machine.new) (B.memory bus.new) (D.pins board.new)) ≡ kept (world (state_of machine.old) (B.memory bus.old) (D.pins board.old)) (step_of D.next (world (state_of machine.old) (B.memory bus.old) (D.pins board.old))) }
 {
     step_steps(machine, bus, board)
 }

@@ -1,4 +1,6 @@
 // Reads pins.bin and prints its pin records, and what stopped them: docs/RECORDS.md.
+#![tactic(auto)]
+
 ghost use Rattle.std.specs.Prelude.{◌≤◌, length, IfOk};
 
 use anyhow::anyhow;
