@@ -1,6 +1,6 @@
 -- What the builders of buses answer, and what they refuse.
 use Rattle.std.specs.Prelude.{ℕ, Bool, cond, ◌&&◌, List, length, Ok, Err, Result, nat_le, nat_lt}
-use Rattle.std.specs.Borrow.{Bor}
+use Rattle.std.specs.Borrow.{Bor, MutBor}
 use Rattle.buses.specs.declared.refusal.Refusal.{Refusal}
 use Rattle.buses.specs.declared.refusal.Refusal.TheVariants.{MemorySize, FirstAboveLast}
 use Rattle.buses.specs.declared.refusal.Rejected.{Rejected}
@@ -27,12 +27,12 @@ abbrev pub has_size : List ℕ → Bool
 has_size bytes = nat_lt 0 (length bytes) && nat_le (length bytes) 65536
 
 -- the builder of the split bus
-abbrev pub split_of : Bor (List ℕ) → Bor (List ℕ) → Result Memory (Rejected (Bor (List ℕ)))
+abbrev pub split_of : Bor (List ℕ) → MutBor (List ℕ) → Result Memory (Rejected (MutBor (List ℕ)))
 split_of code store =
     cond (has_size code.now && has_size store.now) (Ok (split code.now store.now)) (rejected store MemorySize)
 
 -- the builder of the combined bus
-abbrev pub combined_of : Bor (List ℕ) → Result Memory (Rejected (Bor (List ℕ)))
+abbrev pub combined_of : MutBor (List ℕ) → Result Memory (Rejected (MutBor (List ℕ)))
 combined_of bytes = cond (has_size bytes.now) (Ok (combined bytes.now)) (rejected bytes MemorySize)
 
 -- the builder of the fence over a bus with this meaning

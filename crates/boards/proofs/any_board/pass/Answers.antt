@@ -9,5 +9,5 @@ loop-i-preserved g c = (
 
 pub returns : goal.returns
 returns g c =
-    let e : c.loop-i.-i ≡ c.args.cycles = omega arith in
+    let e : c.loop-i._i ≡ c.args.cycles = omega arith in
     record { value = rw e at c.loop-i.invariant.0; keeps = c.loop-i.invariant.1 }

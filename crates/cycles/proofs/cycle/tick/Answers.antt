@@ -6,4 +6,4 @@ use Rattle.cycles.proofs.cycle.tick.Goals as goal
 
 pub returns : goal.returns
 unfolding tick_of
-returns c = ap (λ t. with_pins t c.args.pins) (c.raise-flags.ensures ∙ ap (flags_of c.args.pins) c.count-timers.ensures)
+returns c = ap (λ t. with_pins t c.args.pins) (c.raise_flags.ensures ∙ ap (flags_of c.args.pins) c.count_timers.ensures)

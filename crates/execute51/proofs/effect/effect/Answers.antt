@@ -3,4 +3,4 @@ use Rattle.execute51.proofs.effect.effect.Goals as goal
 
 pub returns : goal.returns
 unfolding effect_of
-returns g c = c.effect-steps.ensures
+returns g c = c.effect_steps.ensures

@@ -5,6 +5,6 @@ use Rattle.execute51.proofs.execute.execute.Goals as goal
 pub returns : goal.returns
 unfolding execute_of
 returns g c = record {
-  effect = c.execute-steps.ensures;
-  shows = execute_shows (g.D.Board.pins c.args.board.now) c.args.core.now.chip (g.B.Bus.memory c.args.bus.now) _ _ _ c.execute-steps.ensures;
+  effect = c.execute_steps.ensures;
+  shows = execute_shows (g.D.Board.pins c.args.board.now) c.args.core.now.chip (g.B.Bus.memory c.args.bus.now) _ _ _ c.execute_steps.ensures;
 }

@@ -3,4 +3,4 @@ use Rattle.execute51.proofs.execute.instruction.Goals as goal
 
 pub returns : goal.returns
 unfolding instruction_of
-returns g c = c.instruction-steps.ensures
+returns g c = c.instruction_steps.ensures

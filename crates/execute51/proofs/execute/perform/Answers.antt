@@ -3,4 +3,4 @@ use Rattle.execute51.proofs.execute.perform.Goals as goal
 
 pub returns : goal.returns
 unfolding perform_of
-returns g c = c.perform-steps.ensures
+returns g c = c.perform_steps.ensures

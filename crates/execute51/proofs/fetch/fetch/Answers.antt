@@ -3,4 +3,4 @@ use Rattle.execute51.proofs.fetch.fetch.Goals as goal
 
 pub returns : goal.returns
 unfolding fetch_of
-returns g c = c.fetch-steps.ensures
+returns g c = c.fetch_steps.ensures

@@ -3,4 +3,4 @@ use Rattle.instructions.proofs.decode.decode.Goals as goal
 
 pub returns : goal.returns
 unfolding decode_of
-returns c = c.decode-steps.ensures
+returns c = c.decode_steps.ensures

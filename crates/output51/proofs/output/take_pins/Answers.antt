@@ -15,20 +15,20 @@ take_counted n u xs e =
 pub returns-in-Ok : goal.returns-in-Ok
 returns-in-Ok c =
     let file = c.args.file.now in
-    let used = c.take-up.new.log.used in
-    let places = c.take-up.new.log.places.now in
-    let x = up_taken (held c.new-log.result) (held c.take-up.new.log) (file_records 8 pin_taken pin_ordered file) (ap (λ l. l.made) c.new-log.ensures.value) c.in-Ok.ensures.value in
+    let used = c.take_up.new.log.used in
+    let places = c.take_up.new.log.places.now in
+    let x = up_taken (held c.new-log.result) (held c.take_up.new.log) (file_records 8 pin_taken pin_ordered file) (ap (λ l. l.made) c.new-log.ensures.value) c.in-Ok.ensures.value in
     let counted = take_counted c.len.result used places c.len.ensures in
     let value = x ∙ ap Ok (sym counted) in
     let n = count_records pin_ordered pin_taken 8 file (take used places) x in
     let within : c.len.result ≤ length c.args.places.now = omega (arith, n, c.len.ensures) in
-    let lent = c.take-up.ensures.lent ∙ c.new-log.ensures.lent in
+    let lent = c.take_up.ensures.lent ∙ c.new-log.ensures.lent in
     search rules
 
 pub returns-in-Err : goal.returns-in-Err
 returns-in-Err c =
     let file = c.args.file.now in
     let room = ap (λ l. length l.free) c.new-log.ensures.value in
-    let x = up_refused (held c.new-log.result) (held c.take-up.new.log) (file_records 8 pin_taken pin_ordered file) c.in-Err.refusal
+    let x = up_refused (held c.new-log.result) (held c.take_up.new.log) (file_records 8 pin_taken pin_ordered file) c.in-Err.refusal
     (λ rs e. omega (arith, room, count_records pin_ordered pin_taken 8 file rs e)) c.in-Err.ensures.value in
     record { value = x.0; within = tt }

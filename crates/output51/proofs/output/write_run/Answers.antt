@@ -23,5 +23,5 @@ returns g c =
     ∙ ap (λ s. run_of script_next 64 (session (world s m board) traces ports)) c.new-core.ensures
     ∙ ap (λ l. run_of script_next 64 (session (world (fresh_state (replicate 128 0)) m board) l ports)) c.new-traces.ensures.value
     ∙ ap (λ l. run_of script_next 64 (session (world (fresh_state (replicate 128 0)) m board) trace_log l)) c.new-ports.ensures.value in
-    c.write-text.ensures
+    c.write_text.ensures
     ∙ ap (λ (r : (ℕ × ℕ) × Session Playback). kept out (printed (text_of trace_bytes r.1.traces.made r.0.1) out)) ran

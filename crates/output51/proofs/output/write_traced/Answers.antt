@@ -11,4 +11,4 @@ pub returns-in-Ok : goal.returns-in-Ok
 returns-in-Ok g c =
     let m = g.B.Bus.memory c.args.bus.now in
     let x = kept_ok _ (played_by c.load.new.self) tt (load_of c.args.records.now) c.in-Ok.ensures.value in
-    c.write-run.ensures ∙ ap (λ r. kept c.args.out.now (printed (text (then r (λ board. Ok (ran m board.1)))) c.args.out.now)) (sym x)
+    c.write_run.ensures ∙ ap (λ r. kept c.args.out.now (printed (text (then r (λ board. Ok (ran m board.1)))) c.args.out.now)) (sym x)

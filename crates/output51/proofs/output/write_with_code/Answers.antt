@@ -21,6 +21,6 @@ returns-in-Err c =
     let store = c.args.data.now in
     let out = c.args.out.now in
     let x = not_built (has_size code && has_size store) (split code store) _ c.in-Err.rejected c.in-Err.ensures in
-    c.write-refused.ensures
+    c.write_refused.ensures
     ∙ ap (λ n. kept out (printed (text_of trace_bytes [] n) out)) (c.number.ensures ∙ x.1)
     ∙ ap (λ b. kept out (printed (cond b (text (pins_traced (split code store) c.args.pins.now)) (text_of trace_bytes [] 1)) out)) (sym x.0)

@@ -10,36 +10,35 @@ pub loop-piece-preserved : goal.loop-piece-preserved
 loop-piece-preserved g c =
     let inv = c.loop-piece.invariant in
     let step = c.in-Some.ensures.steps in
-    let n : length c.in-Some.piece.now ≡ g.R.Record.width = step.1.1 ∙ inv.2 in (
-      tt,
-      subst (λ k. 0 < k) (sym step.0) inv.1,
-      step.0 ∙ inv.2,
-      inv.3 ∙ judged_piece g.R.Record.ordered g.R.Record.taken g.R.Record.width g.R.Record.wide
-          c.loop-piece.ordered c.still-in-order-ordered.result c.loop-piece.before c.in-ok-record.record
+    let n : length c.in-Some.piece.now ≡ g.R.Record.width = step.1.1 ∙ inv.1 in (
+      subst (λ k. 0 < k) (sym step.0) inv.0,
+      step.0 ∙ inv.1,
+      inv.2 ∙ judged_piece g.R.Record.ordered g.R.Record.taken g.R.Record.width g.R.Record.wide
+          c.loop-piece.ordered c.still_in_order-ordered.result c.loop-piece.before c.in_ok-record.record
           c.in-Some.piece.now (chunks_exact_rest c.next.new.self) (chunks_exact_rest c.loop-piece.piece-iterator)
-          n step.1.0 c.in-ok-record.ensures.value c.still-in-order-ordered.ensures,
+          n step.1.0 c.in_ok-record.ensures.value c.still_in_order-ordered.ensures,
     )
 
-pub returns-in-err-record : goal.returns-in-err-record
-returns-in-err-record g c =
+pub returns-in_err-record : goal.returns-in_err-record
+returns-in_err-record g c =
     let inv = c.loop-piece.invariant in
     let step = c.in-Some.ensures.steps in
-    let n : length c.in-Some.piece.now ≡ g.R.Record.width = step.1.1 ∙ inv.2 in
-    let p = err_from_is_err_and c.from-residual.result c.from-residual.ensures.1 in
+    let n : length c.in-Some.piece.now ≡ g.R.Record.width = step.1.1 ∙ inv.1 in
+    let p = err_from_is_err_and c.from_residual.result c.from_residual.ensures.1 in
     p.1 ∙ ap Err p.2 ∙ sym (judged_all g.R.Record.ordered (all_taken g.R.Record.taken (all_pieces g.R.Record.width c.args.file.now))
-    ∙ inv.3
+    ∙ inv.2
     ∙ refused_piece g.R.Record.ordered g.R.Record.taken g.R.Record.width g.R.Record.wide c.loop-piece.ordered c.loop-piece.before
-    c.in-err-record.field-0.0 c.in-Some.piece.now (chunks_exact_rest c.next.new.self) (chunks_exact_rest c.loop-piece.piece-iterator)
-    n step.1.0 c.in-err-record.ensures.value)
+    c.in_err-record.field-0.0 c.in-Some.piece.now (chunks_exact_rest c.next.new.self) (chunks_exact_rest c.loop-piece.piece-iterator)
+    n step.1.0 c.in_err-record.ensures.value)
 
 pub returns-then-ordered : goal.returns-then-ordered
 returns-then-ordered g c =
     let inv = c.loop-piece.invariant in
     let step = c.in-None.ensures.steps in
     sym (judged_all g.R.Record.ordered (all_taken g.R.Record.taken (all_pieces g.R.Record.width c.args.file.now))
-    ∙ inv.3
+    ∙ inv.2
     ∙ judged_end g.R.Record.ordered g.R.Record.taken g.R.Record.width g.R.Record.wide c.loop-piece.ordered c.loop-piece.before
-    (chunks_exact_rest c.loop-piece.piece-iterator) (subst (λ k. length (chunks_exact_rest c.loop-piece.piece-iterator) < k) inv.2 step.1.0)
+    (chunks_exact_rest c.loop-piece.piece-iterator) (subst (λ k. length (chunks_exact_rest c.loop-piece.piece-iterator) < k) inv.1 step.1.0)
     ∙ ap (λ b. cond b (Ok tt) (Err CycleBelowTheOneBefore)) c.if-ordered.true)
 
 pub returns-else-ordered : goal.returns-else-ordered
@@ -47,7 +46,7 @@ returns-else-ordered g c =
     let inv = c.loop-piece.invariant in
     let step = c.in-None.ensures.steps in
     sym (judged_all g.R.Record.ordered (all_taken g.R.Record.taken (all_pieces g.R.Record.width c.args.file.now))
-    ∙ inv.3
+    ∙ inv.2
     ∙ judged_end g.R.Record.ordered g.R.Record.taken g.R.Record.width g.R.Record.wide c.loop-piece.ordered c.loop-piece.before
-    (chunks_exact_rest c.loop-piece.piece-iterator) (subst (λ k. length (chunks_exact_rest c.loop-piece.piece-iterator) < k) inv.2 step.1.0)
+    (chunks_exact_rest c.loop-piece.piece-iterator) (subst (λ k. length (chunks_exact_rest c.loop-piece.piece-iterator) < k) inv.1 step.1.0)
     ∙ ap (λ b. cond b (Ok tt) (Err CycleBelowTheOneBefore)) c.if-ordered.false)

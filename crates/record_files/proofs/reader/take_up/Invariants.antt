@@ -10,7 +10,6 @@ use Rattle.record_files.proofs.reader.take_up.Given as goal
 abbrev pub invariant-loop-piece : goal.invariant-loop-piece
 invariant-loop-piece g l =
     (goal.iterator-loop-piece g).can_next l.piece-iterator ×
-    (goal.iterator-loop-piece g).is_finite l.piece-iterator ×
     (chunks_exact_size l.piece-iterator ≡ g.R.Record.width) ×
     ((end : Entries g.row.R.Denot)
     → Adds (held l.log) end (flat_map (λ p. accepted (g.R.Record.taken p)) (all_pieces g.R.Record.width (chunks_exact_rest l.piece-iterator)))

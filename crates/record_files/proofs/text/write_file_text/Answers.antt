@@ -9,14 +9,14 @@ use Rattle.record_files.proofs.text.write_file_text.Goals as goal
 
 pub returns-in-Ok : goal.returns-in-Ok
 returns-in-Ok c =
-    let x = up_taken (held c.args.pins.now) (held c.take-up.new.log) (file_records 8 pin_taken pin_ordered c.args.file.now) c.requires.0 c.in-Ok.ensures.value in
-    c.write-text.ensures ∙ ap (λ y. kept c.args.out.now (printed (outcome_text y) c.args.out.now)) (sym x)
+    let x = up_taken (held c.args.pins.now) (held c.take_up.new.log) (file_records 8 pin_taken pin_ordered c.args.file.now) c.requires.0 c.in-Ok.ensures.value in
+    c.write_text.ensures ∙ ap (λ y. kept c.args.out.now (printed (outcome_text y) c.args.out.now)) (sym x)
 
 pub returns-in-Err : goal.returns-in-Err
 returns-in-Err c =
-    let x = up_refused (held c.args.pins.now) (held c.take-up.new.log) (file_records 8 pin_taken pin_ordered c.args.file.now) c.in-Err.refusal
+    let x = up_refused (held c.args.pins.now) (held c.take_up.new.log) (file_records 8 pin_taken pin_ordered c.args.file.now) c.in-Err.refusal
     (λ rs e. subst (λ k. k ≤ length (held c.args.pins.now).free) (sym (count_records pin_ordered pin_taken 8 c.args.file.now rs e)) c.requires.1) c.in-Err.ensures.value in
-    c.write-text_in-Err.ensures
+    c.write_text-in-Err.ensures
     ∙ ap (λ l. kept c.args.out.now (printed (text_of pin_bytes l.made c.number.result) c.args.out.now)) x.1
     ∙ ap (λ rs. kept c.args.out.now (printed (text_of pin_bytes rs c.number.result) c.args.out.now)) c.requires.0
     ∙ ap (λ n. kept c.args.out.now (printed (text_of pin_bytes [] n) c.args.out.now)) c.number.ensures

@@ -9,11 +9,11 @@ use Rattle.record_files.proofs.text.write_line.Goals as goal
 pub returns-in-Some : goal.returns-in-Some
 returns-in-Some g c =
     let image = g.R.Record.image c.in-Some.record in
-    let hex : Adds (held c.args.text.now) (held c.write-hex.new.text) (flat_map hex_byte image) = search rules in
-    let end : Adds (held c.write-hex.new.text) (held c.extend.new.self) (10 ∷ []) =
-    adds_all (held c.write-hex.new.text) (held c.extend.new.self) (10 ∷ []) c.extend.result c.extend.ensures.value in
-    let both = adds_more (held c.args.text.now) (held c.write-hex.new.text) (held c.extend.new.self) (flat_map hex_byte image) (10 ∷ []) hex end in
+    let hex : Adds (held c.args.text.now) (held c.write_hex.new.text) (flat_map hex_byte image) = search rules in
+    let end : Adds (held c.write_hex.new.text) (held c.extend.new.self) (10 ∷ []) =
+    adds_all (held c.write_hex.new.text) (held c.extend.new.self) (10 ∷ []) c.extend.result c.extend.ensures.value in
+    let both = adds_more (held c.args.text.now) (held c.write_hex.new.text) (held c.extend.new.self) (flat_map hex_byte image) (10 ∷ []) hex end in
     record {
       adds = subst (λ o. Adds (held c.args.text.now) (held c.extend.new.self) (image_at (record_line g.R.Record.image) o)) c.in-Some.ensures both;
-      lent = c.extend.ensures.lent ∙ c.write-hex.ensures.lent;
+      lent = c.extend.ensures.lent ∙ c.write_hex.ensures.lent;
     }

@@ -8,9 +8,9 @@ use Rattle.record_files.proofs.text.write_lines.Goals as goal
 
 pub loop-i-preserved : goal.loop-i-preserved
 loop-i-preserved g c = (
-  adds_entry (record_line g.R.Record.image) (held c.args.log.now).made c.loop-i.i (held c.args.text.now) (held c.loop-i.text) (held c.write-line.new.text)
-      c.loop-i.invariant.0 c.write-line.ensures.adds,
-  c.write-line.ensures.lent ∙ c.loop-i.invariant.1,
+  adds_entry (record_line g.R.Record.image) (held c.args.log.now).made c.loop-i.i (held c.args.text.now) (held c.loop-i.text) (held c.write_line.new.text)
+      c.loop-i.invariant.0 c.write_line.ensures.adds,
+  c.write_line.ensures.lent ∙ c.loop-i.invariant.1,
 )
 
 pub returns : goal.returns

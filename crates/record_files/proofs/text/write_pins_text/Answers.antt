@@ -12,4 +12,4 @@ pub returns : goal.returns
 returns c =
     let n : c.min-n.result - 0 ≡ c.min-n.result = omega arith in
     let head = ap (λ k. take k c.args.file.now) n ∙ take_min c.min-n.result 4096 c.args.file.now c.min-n.ensures in
-    c.write-file-text.ensures ∙ ap (λ bs. kept c.args.out.now (printed (file_text bs) c.args.out.now)) head
+    c.write_file_text.ensures ∙ ap (λ bs. kept c.args.out.now (printed (file_text bs) c.args.out.now)) head

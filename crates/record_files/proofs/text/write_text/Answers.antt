@@ -6,8 +6,8 @@ use Rattle.logs.proofs.Growth.{adds_more}
 use Rattle.record_files.proofs.Writing.{length_lines, printed_through, too_long}
 use Rattle.record_files.proofs.text.write_text.Goals as goal
 
-pub returns-then-out-lt-STOP-LINE : goal.returns-then-out-lt-STOP-LINE
-returns-then-out-lt-STOP-LINE g c =
+pub returns-then-out-lt-STOP_LINE : goal.returns-then-out-lt-STOP_LINE
+returns-then-out-lt-STOP_LINE g c =
     let rs = (held c.args.log.now).made in
     too_long c.args.out.now (text_of g.R.Record.image rs c.args.stop)
     (omega (arith, length-append (flat_map (record_line g.R.Record.image) rs) (stop_line c.args.stop)))
@@ -35,8 +35,8 @@ returns g c =
     let l : length rs * (w * 2 + 1) ≤ length c.args.out.now - 8 = (le-div_iff_mul-le p).0 h in
     let f : length (text_of g.R.Record.image rs c.args.stop) ≤ length c.args.out.now =
     omega (arith, length-append (flat_map (record_line g.R.Record.image) rs) (stop_line c.args.stop), length_lines g.R.Record.image w g.R.Record.sized rs) in
-    let a = adds_more (held c.new-text.result) (held c.write-lines.new.text) (held c.write-stop.new.text) _ _ c.write-lines.ensures.adds c.write-stop.ensures.adds in
-    let t = printed_through c.args.out.now c.write-stop.new.text.places.now (text_of g.R.Record.image rs c.args.stop) c.write-stop.new.text.used c.len-2.result
-    (subst (λ l. Adds l (held c.write-stop.new.text) (text_of g.R.Record.image rs c.args.stop)) c.new-text.ensures.value a) f c.len-2.ensures in
-    let lent = c.write-stop.ensures.lent ∙ c.write-lines.ensures.lent ∙ c.new-text.ensures.lent in
+    let a = adds_more (held c.new-text.result) (held c.write_lines.new.text) (held c.write_stop.new.text) _ _ c.write_lines.ensures.adds c.write_stop.ensures.adds in
+    let t = printed_through c.args.out.now c.write_stop.new.text.places.now (text_of g.R.Record.image rs c.args.stop) c.write_stop.new.text.used c.len-2.result
+    (subst (λ l. Adds l (held c.write_stop.new.text) (text_of g.R.Record.image rs c.args.stop)) c.new-text.ensures.value a) f c.len-2.ensures in
+    let lent = c.write_stop.ensures.lent ∙ c.write_lines.ensures.lent ∙ c.new-text.ensures.lent in
     search rules

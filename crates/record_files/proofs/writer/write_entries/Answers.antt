@@ -7,9 +7,9 @@ use Rattle.record_files.proofs.writer.write_entries.Goals as goal
 
 pub loop-i-preserved : goal.loop-i-preserved
 loop-i-preserved g c = (
-  adds_entry g.R.Record.image (held c.args.log.now).made c.loop-i.i (held c.args.bytes.now) (held c.loop-i.bytes) (held c.write-entry.new.bytes)
-      c.loop-i.invariant.0 c.write-entry.ensures.adds,
-  c.write-entry.ensures.lent ∙ c.loop-i.invariant.1,
+  adds_entry g.R.Record.image (held c.args.log.now).made c.loop-i.i (held c.args.bytes.now) (held c.loop-i.bytes) (held c.write_entry.new.bytes)
+      c.loop-i.invariant.0 c.write_entry.ensures.adds,
+  c.write_entry.ensures.lent ∙ c.loop-i.invariant.1,
 )
 
 pub returns : goal.returns

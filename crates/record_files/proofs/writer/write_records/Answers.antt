@@ -20,8 +20,8 @@ returns g c =
     let h : length (held c.args.log.now).made ≤ length c.args.out.now / g.R.Record.width = omega (arith, d) in
     let l : length (held c.args.log.now).made * g.R.Record.width ≤ length c.args.out.now = (le-div_iff_mul-le g.R.Record.wide).0 h in
     let z : ltb (length c.args.out.now) (length (file_bytes g.R.Record.image (held c.args.log.now).made)) ≡ false = search rules in
-    let a : Adds (held c.new.result) (held c.write-entries.new.bytes) (file_bytes g.R.Record.image (held c.args.log.now).made) = c.write-entries.ensures.adds in
-    let t : c.write-entries.new.bytes.places.now ≡ file_bytes g.R.Record.image (held c.args.log.now).made ++ drop (length (file_bytes g.R.Record.image (held c.args.log.now).made)) c.args.out.now
-    = written_through c.args.out.now c.write-entries.new.bytes.places.now _ c.write-entries.new.bytes.used (subst (λ l. Adds l (held c.write-entries.new.bytes) (file_bytes g.R.Record.image (held c.args.log.now).made)) c.new.ensures.value a) (omega arith) in
-    let lent = c.write-entries.ensures.lent ∙ c.new.ensures.lent in
+    let a : Adds (held c.new.result) (held c.write_entries.new.bytes) (file_bytes g.R.Record.image (held c.args.log.now).made) = c.write_entries.ensures.adds in
+    let t : c.write_entries.new.bytes.places.now ≡ file_bytes g.R.Record.image (held c.args.log.now).made ++ drop (length (file_bytes g.R.Record.image (held c.args.log.now).made)) c.args.out.now
+    = written_through c.args.out.now c.write_entries.new.bytes.places.now _ c.write_entries.new.bytes.used (subst (λ l. Adds l (held c.write_entries.new.bytes) (file_bytes g.R.Record.image (held c.args.log.now).made)) c.new.ensures.value a) (omega arith) in
+    let lent = c.write_entries.ensures.lent ∙ c.new.ensures.lent in
     simp z (search rules)

@@ -3,4 +3,4 @@ use Rattle.step51.proofs.step.act.Goals as goal
 
 pub returns : goal.returns
 unfolding act_of
-returns g c = c.act-steps.ensures
+returns g c = c.act_steps.ensures

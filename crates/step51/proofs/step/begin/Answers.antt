@@ -3,4 +3,4 @@ use Rattle.step51.proofs.step.begin.Goals as goal
 
 pub returns : goal.returns
 unfolding begin_of
-returns g c = c.begin-steps.ensures
+returns g c = c.begin_steps.ensures

@@ -3,4 +3,4 @@ use Rattle.step51.proofs.step.step.Goals as goal
 
 pub returns : goal.returns
 unfolding step_of
-returns g c = c.step-steps.ensures
+returns g c = c.step_steps.ensures

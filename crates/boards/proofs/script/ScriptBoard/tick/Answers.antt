@@ -4,10 +4,10 @@ use Rattle.boards.specs.Script.{in_force, last_levels}
 use Rattle.boards.proofs.Due.{in_force_later}
 use Rattle.boards.proofs.script.ScriptBoard.tick.Goals as goal
 
-pub is-due-requires : goal.is-due-requires
-is-due-requires c =
+pub is_due-requires : goal.is_due-requires
+is_due-requires c =
     let s = c.args.self.now in
-    let n = c.saturating-add-ticks.result in
+    let n = c.saturating_add-ticks.result in
     let h : s.ticks ≤ n = omega arith in
     record {
       ordered = s.ordered;
@@ -17,7 +17,7 @@ is-due-requires c =
 pub advance-due-requires : goal.advance-due-requires
 advance-due-requires c =
     let s = c.args.self.now in
-    let n = c.saturating-add-ticks.result in
+    let n = c.saturating_add-ticks.result in
     let h : s.ticks ≤ n = omega arith in
     record {
       ordered = s.ordered;

@@ -3,4 +3,4 @@ use Rattle.core51.proofs.state.Chip.get.Goals as goal
 
 pub returns : goal.returns
 unfolding get_of
-returns c = c.get-table.ensures
+returns c = c.get_table.ensures

@@ -3,4 +3,4 @@ use Rattle.core51.proofs.state.Chip.put.Goals as goal
 
 pub returns : goal.returns
 unfolding put_of
-returns c = c.put-table.ensures
+returns c = c.put_table.ensures

@@ -3,4 +3,4 @@ use Rattle.cycles.proofs.machine.Machine.cycle.Goals as goal
 
 pub returns : goal.returns
 unfolding cycle_of
-returns g c = c.cycle-steps.ensures
+returns g c = c.cycle_steps.ensures

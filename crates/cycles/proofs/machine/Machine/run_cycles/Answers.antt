@@ -8,5 +8,5 @@ loop-i-preserved g c = rw add-one (c.cycle.ensures ∙ ap (cycle_of g.D.Board.ne
 pub returns : goal.returns
 unfolding cycles_of
 returns g c =
-    let e : c.loop-i.-i ≡ c.args.count - 1 = omega arith in
+    let e : c.loop-i._i ≡ c.args.count - 1 = omega arith in
     c.cycle-2.ensures ∙ ap (cycle_of g.D.Board.next c.args.polls) (rw e at c.loop-i.invariant)

@@ -3,4 +3,4 @@ use Rattle.cycles.proofs.machine.Machine.vector_call.Goals as goal
 
 pub returns : goal.returns
 unfolding vector_call_of
-returns c = c.call-steps.ensures
+returns c = c.call_steps.ensures

@@ -11,8 +11,8 @@ use Rattle.panel51.proofs.panel.Panel51.run.Goals as goal
 same_run : {S : Type 0} (next : Pins S → Pins S) (s : Session S) (n : ℕ) (r : (ℕ × ℕ) × Session S) → r ≡ run_of next n s → RunLives next s n r
 same_run next s n r e = subst (RunLives next s n) (sym e) (run_lives next s n)
 
-pub returns-then-n-gt-MOST-STEPS : goal.returns-then-n-gt-MOST-STEPS
-returns-then-n-gt-MOST-STEPS g c =
+pub returns-then-n-gt-MOST_STEPS : goal.returns-then-n-gt-MOST_STEPS
+returns-then-n-gt-MOST_STEPS g c =
     let next = g.D.Board.next in
     let e = sym (run_above next c.args.n _ (omega arith)) in
     record { value = e; lent = (refl, refl); lives = lives next; history = same_run next _ c.args.n _ e }

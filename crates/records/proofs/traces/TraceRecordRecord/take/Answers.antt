@@ -4,13 +4,13 @@ use Rattle.records.specs.Trace.{kind_byte, opcode_byte, source_byte, cycles_numb
 use Rattle.records.proofs.Layouts.{spell}
 use Rattle.records.proofs.traces.TraceRecordRecord.take.Goals as goal
 
-pub returns-in-ok-marks : goal.returns-in-ok-marks
-returns-in-ok-marks c =
+pub returns-in_ok-marks-in-len8 : goal.returns-in_ok-marks-in-len8
+returns-in_ok-marks-in-len8 c =
     let n : length c.args.bytes.now ≡ 8 = search rules in
-    let k = c.in-ok-kind.ensures.exact in
-    let y : cycles_number c.in-ok-cycles.cycles ≡ get_or c.args.bytes.now 4 0 = c.in-ok-cycles.ensures.exact in
-    let m : marks_byte c.in-ok-marks.marks ≡ get_or c.args.bytes.now 6 0 = c.in-ok-marks.ensures.exact in
-    let p1 : byte1 c.from-be-bytes-pc.result ≡ get_or c.args.bytes.now 1 0 = omega arith in
-    let p0 : byte0 c.from-be-bytes-pc.result ≡ get_or c.args.bytes.now 2 0 = omega arith in
+    let k = c.in_ok-kind-in-len8.ensures.exact in
+    let y : cycles_number c.in_ok-cycles-in-len8.cycles ≡ get_or c.args.bytes.now 4 0 = c.in_ok-cycles-in-len8.ensures.exact in
+    let m : marks_byte c.in_ok-marks-in-len8.marks ≡ get_or c.args.bytes.now 6 0 = c.in_ok-marks-in-len8.ensures.exact in
+    let p1 : byte1 c.from_be_bytes-pc.result ≡ get_or c.args.bytes.now 1 0 = omega arith in
+    let p0 : byte0 c.from_be_bytes-pc.result ≡ get_or c.args.bytes.now 2 0 = omega arith in
     let s = spell 8 c.args.bytes.now n in
     record { value = search rules; exact = cc }
