@@ -3,7 +3,7 @@ ghost use Rattle.std.specs.Prelude.{◌≡◌, ℕ, ◌+◌, ◌*◌};
 ghost use Rattle.history.specs.Promise.{limit};
 ghost use Rattle.history.specs.Cycles.{machine};
 ghost use Rattle.history.specs.Small.{restarted, begun, polled, ticked, small, cycles_and_state, Best};
-ghost use Rattle.std.proofs.Common.{arith};
+ghost use Rattle.std.proofs.Common.{lit≤};
 ghost use Rattle.history.specs.Attained.{small_law};
 
 use crate::Cycled;
@@ -113,7 +113,7 @@ impl Cycled for Small {
 
     ghost unpolled = { 2 };
 
-    ghost keeps = { small_law (omega arith) (omega arith) (omega arith) };
+    ghost keeps = { small_law (lit≤ tt) (lit≤ tt) (lit≤ tt) };
 }
 
 // The limit of the law is the best possible: the small machine keeps the laws with instructions of at most 4 cycles, and of at most 2 if
