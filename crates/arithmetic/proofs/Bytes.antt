@@ -1,5 +1,5 @@
 -- A rule of small numbers, proved at all of them by one test that is computed.
-use Rattle.std.proofs.Common.{◌≡◌, ℕ, zero, suc, ◌<◌, Bool, true, false, T, eqb, ◌⊎◌, sym, refl, subst, inl, inr, not-suc-le-zero, arith, eqb→eq}
+use Rattle.std.proofs.Common.{◌≡◌, ℕ, zero, suc, ◌<◌, Bool, true, false, T, eqb, sym, refl, subst, inl, inr, not-suc-le-zero, arith, eqb→eq}
 use Rattle.std.proofs.lemmas.Bool.{cases_eq}
 
 abbrev pub both : Bool → Bool → Bool

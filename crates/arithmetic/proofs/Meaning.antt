@@ -1,5 +1,5 @@
 -- The laws of specs/Laws.antt.
-use Rattle.std.proofs.Common.{◌≡◌, ℕ, ◌+◌, ◌%◌, ◌<◌, Bool, true, false, cond, T, eqb, ltb, refl, arith, eqb→eq}
+use Rattle.std.proofs.Common.{◌≡◌, ℕ, ◌+◌, ◌%◌, ◌<◌, Bool, true, false, cond, T, eqb, ltb, arith, eqb→eq}
 use Rattle.std.proofs.lemmas.Bool.Decides.{nat_tests}
 use Rattle.arithmetic.specs.Flags.{as_bit, flags_of}
 use Rattle.arithmetic.specs.Sums.{add_of, carries, half_carries, adjust_of}

@@ -1,5 +1,5 @@
 -- What the definitions mean.
-use Rattle.std.specs.Prelude.{◌≡◌, ℕ, ◌+◌, ◌-◌, ◌*◌, ◌/◌, ◌%◌, ◌<◌, Bool, true, false, cond, not, ◌&&◌, ◌==◌, nat_le, nat_lt}
+use Rattle.std.specs.Prelude.{◌≡◌, ℕ, ◌+◌, ◌*◌, ◌/◌, ◌%◌, ◌<◌, Bool, true, false, cond, not, ◌&&◌, ◌==◌, nat_le, nat_lt}
 use Rattle.arithmetic.specs.Flags.{as_bit, flags_of}
 use Rattle.arithmetic.specs.Sums.{add_of, overflows, half_carries, carries, underflows, adjust_of}
 use Rattle.arithmetic.specs.Shifts.{rotate_left_of, rotate_right_of, swap_of}

@@ -1,11 +1,11 @@
 -- Records in order fall due one after the other.
-use Rattle.std.proofs.Common.{◌≡◌, ℕ, zero, suc, ◌+◌, ◌<◌, ◌≤◌, min, Bool, true, false, cond, ◌&&◌, eqb, leb, List, [], ◌∷◌, ◌++◌, length, get_or, take, drop, set, Some, None, Option, sym, refl, ap, ◌∙◌, subst, arith}
+use Rattle.std.proofs.Common.{◌≡◌, ℕ, zero, suc, ◌+◌, ◌<◌, ◌≤◌, min, Bool, true, false, cond, ◌&&◌, eqb, leb, List, [], ◌∷◌, ◌++◌, length, get_or, take, drop, set, Some, sym, refl, ap, ◌∙◌, subst, arith}
 use Rattle.std.proofs.lemmas.List.{take-append-drop, append-nil, take_more, drop_more, at_drop_more, at_drop_all}
 use Rattle.std.proofs.lemmas.Bool.{leb-true, le-leb, lt-leb, and_parts, cond-true, cond-false}
 use Rattle.records.specs.declared.pins.PinRecord.{PinRecord}
 use Rattle.records.specs.declared.ports.Port.{Port}
 use Rattle.records.specs.declared.ports.Port.TheVariants.{P0, P1, P2, P3}
-use Rattle.records.specs.Order.{in_order, follows}
+use Rattle.records.specs.Order.{in_order}
 use Rattle.records.specs.Pin.{pin_ordered}
 use Rattle.records.specs.Port.{port_number}
 use Rattle.boards.specs.Script.{in_force, last_level, last_levels, levels_at, cycles_in_order, played, script_next, Plays}

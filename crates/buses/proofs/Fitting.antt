@@ -1,5 +1,5 @@
 -- A write changes no address's being fitted, writable or shared, and keeps shared bytes equal.
-use Rattle.std.proofs.Common.{◌≡◌, ℕ, Bool, true, false, eqb, is_some, Some, None, Ok, Option, refl, rules}
+use Rattle.std.proofs.Common.{◌≡◌, ℕ, Bool, true, false, eqb, Some, None, Ok, Option, refl, rules}
 use Rattle.outcome.specs.Outcome.{kept, then}
 use Rattle.buses.specs.Memory.{Memory, Lawful, SameFitting, FittingStands, accepts, written}
 

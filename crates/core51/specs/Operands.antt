@@ -1,5 +1,5 @@
 -- The places that an instruction names, what they hold, and the one byte that it may put back.
-use Rattle.std.specs.Prelude.{ℕ, Bool, true, false, cond, Some, None, Ok, Err, Option, Result}
+use Rattle.std.specs.Prelude.{ℕ, Bool, true, false, cond, Some, None, Ok, Option, Result}
 use Rattle.outcome.specs.Outcome.{then}
 use Rattle.boards.specs.Board.{Pins}
 use Rattle.instructions.specs.declared.Operand.{Operand}

@@ -1,5 +1,5 @@
 -- The bytes inside the chip that an instruction can name.
-use Rattle.std.specs.Prelude.{ℕ, ◌+◌, ◌*◌, ◌/◌, ◌%◌, Bool, true, false, cond, ◌||◌, List, Some, None, Ok, Err, Option, Result, ◌==◌, bit_and, nat_lt, slice_index, slice_index_or, slice_set}
+use Rattle.std.specs.Prelude.{ℕ, ◌+◌, ◌*◌, ◌/◌, ◌%◌, cond, ◌||◌, Some, None, Ok, Err, Option, Result, ◌==◌, bit_and, nat_lt, slice_index, slice_index_or, slice_set}
 use Rattle.boards.specs.Board.{Pins, level_of}
 use Rattle.instructions.specs.Tables.{is_register_of}
 use Rattle.instructions.specs.declared.Operand.{Operand}

@@ -1,5 +1,5 @@
 -- The stack.
-use Rattle.std.specs.Prelude.{ℕ, ◌+◌, ◌/◌, ◌%◌, Ok, Err, Result}
+use Rattle.std.specs.Prelude.{ℕ, ◌+◌, ◌/◌, ◌%◌, Ok, Result}
 use Rattle.outcome.specs.Outcome.{then}
 use Rattle.arithmetic.specs.Addresses.{word_of}
 use Rattle.core51.specs.declared.fault.Fault.{Fault}

@@ -1,5 +1,5 @@
 -- The external interrupt flags in one machine cycle.
-use Rattle.std.specs.Prelude.{ℕ, Bool, true, false, cond, not, ◌||◌}
+use Rattle.std.specs.Prelude.{ℕ, Bool, cond, not, ◌||◌}
 use Rattle.arithmetic.specs.Bits.{bit_of, with_bit_of}
 use Rattle.core51.specs.declared.state.Timers.{Timers}
 use Rattle.core51.specs.State.{with_tcon}

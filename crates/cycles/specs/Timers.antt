@@ -1,5 +1,5 @@
 -- The two timers in one machine cycle.
-use Rattle.std.specs.Prelude.{ℕ, ◌+◌, ◌*◌, ◌/◌, ◌%◌, Bool, true, false, cond, not, ◌&&◌, ◌||◌, set, ◌==◌, slice_set}
+use Rattle.std.specs.Prelude.{ℕ, ◌+◌, ◌*◌, ◌/◌, ◌%◌, Bool, true, false, cond, not, ◌&&◌, ◌||◌, ◌==◌, slice_set}
 use Rattle.arithmetic.specs.Addresses.{word_of}
 use Rattle.arithmetic.specs.Bits.{bit_of, with_bit_of}
 use Rattle.core51.specs.declared.state.Timer.{Timer}

@@ -1,5 +1,5 @@
 -- The vector call, and what RETI does to the marks.
-use Rattle.std.specs.Prelude.{ℕ, Bool, true, false, cond, Some, None, Ok, Err, Option, Result}
+use Rattle.std.specs.Prelude.{ℕ, Bool, true, false, cond, None, Ok, Result}
 use Rattle.outcome.specs.Outcome.{then}
 use Rattle.records.specs.declared.traces.Source.{Source}
 use Rattle.records.specs.declared.traces.Source.TheVariants.{External0, Timer0, External1, Timer1, Serial}

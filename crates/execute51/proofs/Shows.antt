@@ -1,5 +1,5 @@
 -- Every accepted instruction shows what specs/Laws.antt says.
-use Rattle.std.proofs.Common.{◌≡◌, ℕ, ◌+◌, ◌*◌, ◌/◌, ◌%◌, ◌<◌, ◌≤◌, Bool, true, false, cond, not, ◌&&◌, ◌||◌, eqb, ltb, ◌≢◌, ◌⊎◌, List, is_some, Some, None, Ok, Err, Option, Result, sym, refl, ap, ◌∙◌, subst, inl, inr, arith}
+use Rattle.std.proofs.Common.{◌≡◌, ℕ, ◌+◌, ◌*◌, ◌/◌, ◌<◌, ◌≤◌, Bool, true, false, cond, not, ◌&&◌, ◌||◌, eqb, ltb, ◌≢◌, List, is_some, Some, None, Ok, Err, Option, Result, sym, refl, ap, ◌∙◌, subst, inl, inr, arith}
 use Rattle.std.proofs.lemmas.Bool.Decides.{nat_tests}
 use Rattle.std.proofs.lemmas.Bool.{cases_lt, cases_eq, eq-eqb, ne_eqb}
 use Rattle.outcome.specs.Outcome.{kept, then}
@@ -52,8 +52,8 @@ use Rattle.execute51.specs.Control.{call_of, return_of, control_of}
 use Rattle.execute51.specs.Transfer.{look_up_of, movx_read_of, movx_write_of, inside, transfer_of}
 use Rattle.execute51.specs.Effect.{Effect, jumping, effect_of}
 use Rattle.execute51.specs.Fetch.{fetch_of}
-use Rattle.execute51.specs.Told.{to_port, port_write_of, done_of, told_of}
-use Rattle.execute51.specs.Execute.{target_byte, after, perform_of, decoded, instruction_of, settled_chip, execute_of}
+use Rattle.execute51.specs.Told.{to_port, port_write_of}
+use Rattle.execute51.specs.Execute.{target_byte, after, perform_of, decoded, instruction_of, execute_of}
 use Rattle.execute51.specs.Laws.{Accessed, Latched, Shown, Shows, AnswersTarget, Targets}
 
 -- what holds of a result, if it is accepted

@@ -1,5 +1,5 @@
 -- Calls, returns, jumps, compare and count.
-use Rattle.std.specs.Prelude.{ℕ, ◌+◌, ◌%◌, Bool, not, Some, None, Ok, Err, Option, Result, ◌==◌, nat_lt}
+use Rattle.std.specs.Prelude.{ℕ, ◌+◌, ◌%◌, not, Some, Ok, Option, Result, ◌==◌, nat_lt}
 use Rattle.outcome.specs.Outcome.{then}
 use Rattle.arithmetic.specs.Addresses.{relative_of, absolute_of, indexed_of}
 use Rattle.instructions.specs.declared.Source.TheVariants.{Named, Immediate}

@@ -1,5 +1,5 @@
 -- The effect of any instruction on the registers and the memory.
-use Rattle.std.specs.Prelude.{ℕ, Ok, Err, Option, Result}
+use Rattle.std.specs.Prelude.{ℕ, Ok, Option, Result}
 use Rattle.outcome.specs.Outcome.{then}
 use Rattle.buses.specs.Memory.{Memory}
 use Rattle.instructions.specs.declared.Instruction.{Instruction}

@@ -1,5 +1,5 @@
 -- The bytes of an instruction.
-use Rattle.std.specs.Prelude.{ℕ, ◌+◌, ◌%◌, cond, Ok, Err, Result, nat_lt}
+use Rattle.std.specs.Prelude.{ℕ, ◌+◌, ◌%◌, cond, Ok, Result, nat_lt}
 use Rattle.outcome.specs.Outcome.{then}
 use Rattle.buses.specs.Memory.{Memory}
 use Rattle.instructions.specs.Tables.{length_of}

@@ -8,7 +8,6 @@ use Rattle.core51.specs.declared.state.Registers.{Registers}
 use Rattle.core51.specs.declared.state.Chip.{Chip}
 use Rattle.execute51.specs.declared.external.Access.{Access}
 use Rattle.execute51.specs.declared.external.Access.TheVariants.{Nothing, Read, Write}
-use Rattle.execute51.specs.declared.effect.Answer.{Answer}
 use Rattle.execute51.specs.declared.told.PortWrite.{PortWrite}
 use Rattle.execute51.specs.declared.told.Told.{Told}
 use Rattle.execute51.specs.Effect.{Effect, effect_of}

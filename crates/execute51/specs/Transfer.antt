@@ -1,5 +1,5 @@
 -- Moves inside the chip, the stack, exchanges, code tables and external data.
-use Rattle.std.specs.Prelude.{ℕ, Some, None, Ok, Err, Option, Result}
+use Rattle.std.specs.Prelude.{ℕ, None, Ok, Option, Result}
 use Rattle.outcome.specs.Outcome.{then}
 use Rattle.arithmetic.specs.Addresses.{indexed_of}
 use Rattle.arithmetic.specs.Shifts.{exchange_of}

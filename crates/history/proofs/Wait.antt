@@ -1,9 +1,9 @@
 -- How long a request at the highest level waits.
-use Rattle.std.proofs.Common.{◌≡◌, ℕ, suc, ◌+◌, ◌*◌, ◌<◌, ◌≤◌, max, Bool, true, false, cond, not, ◌≢◌, List, [], ◌∷◌, ◌++◌, length, Some, sym, refl, ap, ◌∙◌, subst, mul-suc, arith}
+use Rattle.std.proofs.Common.{◌≡◌, ℕ, suc, ◌+◌, ◌*◌, ◌<◌, ◌≤◌, max, Bool, true, false, cond, ◌≢◌, List, [], ◌∷◌, ◌++◌, length, Some, sym, refl, ap, ◌∙◌, subst, mul-suc, arith}
 use Rattle.history.specs.Events.{Kind, plain, control, reti, call, polls, Closing, Step, Event, step, Moment, restart, cycle, step_moments, moments}
 use Rattle.history.specs.Machine.{Machine}
 use Rattle.history.specs.Promise.{Asks, Waiting, begun, goes_on, in_call, over, ends_unpolled, unpolled, limit, Prompt}
-use Rattle.history.specs.Laws.{View, called, most_cycles, last, before_last, Every, StepLaw, MachineLaw}
+use Rattle.history.specs.Laws.{View, most_cycles, last, before_last, Every, StepLaw, MachineLaw}
 use Rattle.history.proofs.Trail.{Trail, stop, again, onward}
 use Rattle.history.specs.Marks.{contra, is_call, call_or_not, stays_idle, serves}
 

@@ -1,13 +1,13 @@
 -- The small machine keeps the laws, and a request waits on it as long as they let it.
 use Rattle.std.specs.Prelude.{◌≡◌, ℕ, zero, suc, ◌+◌, ◌*◌, ◌<◌, ◌≤◌, Bool, true, false, cond, List, [], ◌∷◌, length, is_some, Some, None, Option, ◌==◌, ◌≢◌, refl}
-use Rattle.std.proofs.Common.{sym, ap, subst, append-nil, arith}
+use Rattle.std.proofs.Common.{sym, ap, append-nil, arith}
 use Rattle.std.proofs.lemmas.Bool.{ne_eqb, eqb-true}
 use Rattle.history.specs.declared.small.Small.{Small}
 use Rattle.history.specs.Events.{Kind, control, call, Moment, cycle, moments}
 use Rattle.history.specs.Machine.{Call, StepOnce, history}
 use Rattle.history.specs.Promise.{Waiting, goes_on, in_call, over, unpolled}
 use Rattle.history.specs.Laws.{called}
-use Rattle.history.specs.Cycles.{machine, Quiet, ChangeLaw, Changes, PartsLaw}
+use Rattle.history.specs.Cycles.{machine, Changes, PartsLaw}
 use Rattle.history.specs.Poll.{poll_of, level_of}
 use Rattle.history.specs.Small.{only, view, polled, small, Attained}
 use Rattle.history.specs.Marks.{contra, some_none}

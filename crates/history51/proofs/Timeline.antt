@@ -12,10 +12,9 @@ use Rattle.step51.specs.Step.{act_of, begin_of}
 use Rattle.boards.specs.Script.{script_next}
 use Rattle.history.specs.Events.{plain, control, call, Moment, cycle, moments}
 use Rattle.history.specs.Machine.{Run, history}
-use Rattle.history.specs.Promise.{Asks, Waiting, begun, goes_on, in_call, over}
+use Rattle.history.specs.Promise.{Asks, Waiting, goes_on, in_call, over}
 use Rattle.history.specs.Laws.{called}
 use Rattle.history.specs.Cycles.{machine}
-use Rattle.history.specs.Small.{Attained}
 use Rattle.history.specs.Marks.{some_none}
 use Rattle.history51.specs.Life.{parts}
 use Rattle.history51.specs.Timeline.{enable, start, asking, before, last_six, eight, Attains}

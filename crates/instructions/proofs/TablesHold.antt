@@ -1,8 +1,8 @@
 -- The rules of specs/Laws.antt: each is a test that is computed at all 256 opcodes, whatever the operand bytes are.
-use Rattle.std.proofs.Common.{◌≡◌, ℕ, ◌/◌, ◌<◌, ◌≤◌, Bool, true, false, ◌&&◌, ◌||◌, T, eqb, leb, ◌⊎◌, is_some, Some, None, Option, refl, ap, ◌∙◌, inl, inr, arith}
+use Rattle.std.proofs.Common.{◌≡◌, ℕ, ◌/◌, ◌≤◌, Bool, true, false, ◌&&◌, ◌||◌, eqb, leb, is_some, Some, None, Option, refl, ap, ◌∙◌, inl, inr, arith}
 use Rattle.std.proofs.lemmas.Bool.Decides.{nat_tests}
 use Rattle.std.proofs.lemmas.Bool.{cases_lt}
-use Rattle.arithmetic.proofs.Bytes.{every, holds_at, agree}
+use Rattle.arithmetic.proofs.Bytes.{holds_at, agree}
 use Rattle.instructions.specs.declared.Instruction.{Instruction}
 use Rattle.records.specs.declared.traces.Source.TheVariants.{External0, Timer0, External1, Timer1, Serial}
 use Rattle.instructions.specs.Decode.{decode_of, decode_steps}

@@ -1,5 +1,5 @@
 -- What an instruction names, and so whether a poll follows it.
-use Rattle.std.specs.Prelude.{ℕ, ◌/◌, Bool, true, false, not, ◌&&◌, ◌||◌, Some, None, Option, ◌==◌}
+use Rattle.std.specs.Prelude.{◌/◌, Bool, true, false, not, ◌&&◌, ◌||◌, Some, None, Option, ◌==◌}
 use Rattle.instructions.specs.declared.operands.Operands.{Operands}
 use Rattle.instructions.specs.declared.Operand.{Operand}
 use Rattle.instructions.specs.declared.Operand.TheVariants.{Accumulator, Register, Direct, Indirect, Bit}

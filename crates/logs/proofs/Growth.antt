@@ -1,5 +1,5 @@
 -- How a log grows.
-use Rattle.std.proofs.Common.{◌≡◌, ℕ, ◌+◌, ◌-◌, ◌<◌, ◌≤◌, true, false, eqb, ltb, List, [], ◌∷◌, ◌++◌, length, drop, Result, sym, refl, ap, ◌∙◌, arith, length-append, length-drop, rules}
+use Rattle.std.proofs.Common.{◌≡◌, ◌≤◌, false, eqb, ltb, List, [], ◌∷◌, ◌++◌, length, Result, sym, ap, ◌∙◌, arith, length-append, length-drop, rules}
 use Rattle.std.proofs.lemmas.List.{append-nil, append_assoc, drop-drop}
 use Rattle.outcome.specs.Outcome.{kept}
 use Rattle.records.specs.declared.refusals.Refusal.{Refusal}

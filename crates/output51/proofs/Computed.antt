@@ -1,5 +1,5 @@
 -- The worked cases, each computed.
-use Rattle.std.proofs.Common.{◌≡◌, ℕ, [], ◌∷◌, Ok, refl}
+use Rattle.std.proofs.Common.{◌≡◌, [], ◌∷◌, Ok, refl}
 use lib.Count.{ones, ones_in}
 use Rattle.instructions.specs.Decode.{decode_of}
 use Rattle.core51.specs.Places.{get_of, put_of, latch_of, write_of}

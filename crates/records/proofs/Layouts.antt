@@ -1,6 +1,5 @@
 -- Bytes and the numbers that they make.
-use Rattle.std.proofs.Common.{◌≡◌, ℕ, zero, suc, ◌^◌, ◌<◌, List, [], ◌∷◌, length, get_or, refl, ap, arith}
-use Rattle.records.specs.Bytes.{byte0, byte1, byte2, byte3, two_bytes, four_bytes}
+use Rattle.std.proofs.Common.{◌≡◌, ℕ, zero, suc, List, [], ◌∷◌, length, get_or, refl, ap, arith}
 
 -- the first n values of a function
 abbrev pub elements : (ℕ → ℕ) → ℕ → List ℕ

@@ -3,7 +3,6 @@ use Rattle.std.specs.Prelude.{ℕ, false, List, replicate, None}
 use Rattle.boards.specs.Board.{Pins, drive_of}
 use Rattle.core51.specs.declared.state.Registers.{Registers}
 use Rattle.core51.specs.declared.state.Timers.{Timers}
-use Rattle.core51.specs.declared.state.Chip.{Chip}
 use Rattle.cycles.specs.declared.machine.Interrupts.{Interrupts}
 use Rattle.cycles.specs.State.{State}
 use Rattle.step51.specs.World.{World, world}

@@ -1,5 +1,5 @@
 -- A run: steps entered in two logs.
-use Rattle.std.specs.Prelude.{ℕ, zero, suc, ◌+◌, ◌%◌, Bool, true, false, cond, ◌||◌, List, [], ◌∷◌, Some, None, Ok, Err, Option, Result, ◌==◌, nat_lt}
+use Rattle.std.specs.Prelude.{ℕ, zero, suc, ◌+◌, ◌%◌, Bool, cond, ◌||◌, [], ◌∷◌, Some, None, Ok, Err, Option, Result, ◌==◌, nat_lt}
 use Rattle.records.specs.declared.ports.Port.{Port}
 use Rattle.records.specs.declared.ports.Port.TheVariants.{P0, P1, P2, P3}
 use Rattle.records.specs.declared.traces.TraceRecord.{TraceRecord}

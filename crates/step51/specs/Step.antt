@@ -8,7 +8,6 @@ use Rattle.core51.specs.declared.fault.Fault.{Fault}
 use Rattle.core51.specs.declared.fault.Fault.TheVariants.{TimeOver}
 use Rattle.core51.specs.declared.state.Chip.{Chip}
 use Rattle.execute51.specs.declared.told.PortWrite.{PortWrite}
-use Rattle.execute51.specs.declared.told.Told.{Told}
 use Rattle.execute51.specs.Execute.{execute_of}
 use Rattle.cycles.specs.declared.poll.Request.{Request}
 use Rattle.cycles.specs.State.{State}

@@ -1,4 +1,4 @@
-use Rattle.std.proofs.Common.{◌≡◌, ◌<◌, ◌≤◌, length, take, set, ap, ◌∙◌, arith}
+use Rattle.std.proofs.Common.{◌<◌, ◌≤◌, length, take, set, ap, ◌∙◌, arith}
 use Rattle.boards.specs.Script.{last_levels}
 use Rattle.boards.proofs.Due.{at, one_more, current_at_end, current_before}
 use Rattle.boards.proofs.script.advance.Goals as goal

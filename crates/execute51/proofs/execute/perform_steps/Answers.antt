@@ -1,4 +1,4 @@
-use Rattle.std.proofs.Common.{◌≡◌, ℕ, Ok, Err, Option, Result, sym, refl, ap, ◌∙◌, arith}
+use Rattle.std.proofs.Common.{◌≡◌, ℕ, Ok, Err, Option, Result, sym, ap, ◌∙◌, arith}
 use Rattle.outcome.specs.Outcome.{kept, then}
 use Rattle.boards.specs.Board.{Pins}
 use Rattle.buses.specs.Memory.{Memory}

@@ -1,4 +1,4 @@
-use Rattle.std.proofs.Common.{◌≡◌, ℕ, ◌/◌, ◌≤◌, List, length, take, Ok, Result, sym, ap, ◌∙◌, arith, length-take, rules}
+use Rattle.std.proofs.Common.{◌≡◌, ℕ, ◌≤◌, List, length, take, Ok, sym, ap, ◌∙◌, arith, length-take, rules}
 use Rattle.std.proofs.lemmas.List.{take-take, take_all}
 use Rattle.logs.specs.Log.{held}
 use Rattle.records.specs.Pin.{pin_taken, pin_ordered}

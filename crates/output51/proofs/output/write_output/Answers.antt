@@ -1,4 +1,4 @@
-use Rattle.std.proofs.Common.{◌≡◌, ℕ, List, length, replicate, ap, ◌∙◌, arith, length-take}
+use Rattle.std.proofs.Common.{length, replicate, ap, ◌∙◌, arith, length-take}
 use Rattle.outcome.specs.Outcome.{kept}
 use Rattle.record_files.specs.Text.{printed}
 use Rattle.output51.specs.Output.{front, split_text}

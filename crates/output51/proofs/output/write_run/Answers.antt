@@ -1,4 +1,4 @@
-use Rattle.std.proofs.Common.{◌≡◌, ℕ, replicate, ap, ◌∙◌}
+use Rattle.std.proofs.Common.{ℕ, replicate, ap, ◌∙◌}
 use Rattle.outcome.specs.Outcome.{kept}
 use Rattle.records.specs.Trace.{trace_bytes}
 use Rattle.logs.specs.Log.{held}

@@ -1,4 +1,4 @@
-use Rattle.std.proofs.Common.{◌≡◌, Ok, sym, ap, ◌∙◌}
+use Rattle.std.proofs.Common.{Ok, sym, ap, ◌∙◌}
 use Rattle.outcome.specs.Outcome.{kept, then}
 use Rattle.record_files.specs.Text.{printed}
 use Rattle.boards.specs.Played.{played_by}

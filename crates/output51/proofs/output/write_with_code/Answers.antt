@@ -1,4 +1,4 @@
-use Rattle.std.proofs.Common.{◌≡◌, ℕ, Bool, true, false, cond, ◌&&◌, List, [], Ok, Err, Result, sym, refl, ap, ◌∙◌, arith}
+use Rattle.std.proofs.Common.{◌≡◌, ℕ, Bool, true, false, cond, ◌&&◌, [], Ok, Err, sym, refl, ap, ◌∙◌, arith}
 use Rattle.outcome.specs.Outcome.{kept}
 use Rattle.records.specs.Trace.{trace_bytes}
 use Rattle.record_files.specs.Text.{text_of, printed}

@@ -4,7 +4,7 @@ use Rattle.std.specs.Slice.Iter.{chunks_exact_rest}
 use Rattle.record_files.specs.File.{accepted, file_sized}
 use Rattle.logs.specs.Log.{held, Adds}
 use Rattle.logs.proofs.Growth.{adds_none, adds_more}
-use Rattle.record_files.proofs.Reading.{all_pieces, one_piece, no_piece, no_room, taken_up}
+use Rattle.record_files.proofs.Reading.{one_piece, no_piece, no_room, taken_up}
 use Rattle.record_files.proofs.reader.take_up.Goals as goal
 
 pub loop-piece-preserved : goal.loop-piece-preserved

@@ -1,4 +1,4 @@
-use Rattle.std.proofs.Common.{◌≡◌, ◌/◌, ◌≤◌, [], length, Result, sym, ap, ◌∙◌, subst, arith}
+use Rattle.std.proofs.Common.{◌≤◌, [], length, sym, ap, ◌∙◌, subst}
 use Rattle.outcome.specs.Outcome.{kept}
 use Rattle.record_files.specs.File.{file_records}
 use Rattle.logs.specs.Log.{held}

@@ -1,4 +1,4 @@
-use Rattle.std.proofs.Common.{◌≡◌, [], ◌∷◌, sym, ap, ◌∙◌, subst, rules}
+use Rattle.std.proofs.Common.{[], ◌∷◌, ◌∙◌, subst, rules}
 use Rattle.std.specs.List.{flat_map}
 use Rattle.record_files.specs.File.{image_at}
 use Rattle.logs.specs.Log.{held, Adds}

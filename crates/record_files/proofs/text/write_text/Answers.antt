@@ -1,4 +1,4 @@
-use Rattle.std.proofs.Common.{◌≡◌, ◌+◌, ◌-◌, ◌*◌, ◌/◌, ◌<◌, ◌≤◌, ◌++◌, length, sym, ap, ◌∙◌, subst, div-lt_iff_lt-mul, le-div_iff_mul-le, arith, length-append, rules}
+use Rattle.std.proofs.Common.{◌≡◌, ◌+◌, ◌-◌, ◌*◌, ◌/◌, ◌<◌, ◌≤◌, length, ap, ◌∙◌, subst, div-lt_iff_lt-mul, le-div_iff_mul-le, arith, length-append, rules}
 use Rattle.std.specs.List.{flat_map}
 use Rattle.logs.specs.Log.{held, Adds}
 use Rattle.record_files.specs.Text.{record_line, stop_line, text_of}

@@ -1,4 +1,4 @@
-use Rattle.std.proofs.Common.{◌≡◌, ◌*◌, ◌/◌, ◌<◌, ◌≤◌, true, false, ltb, ◌++◌, length, drop, sym, ap, ◌∙◌, subst, div-lt_iff_lt-mul, le-div_iff_mul-le, arith, rules}
+use Rattle.std.proofs.Common.{◌≡◌, ◌*◌, ◌/◌, ◌<◌, ◌≤◌, true, false, ltb, ◌++◌, length, drop, ap, ◌∙◌, subst, div-lt_iff_lt-mul, le-div_iff_mul-le, arith, rules}
 use Rattle.record_files.specs.File.{file_bytes}
 use Rattle.logs.specs.Log.{held, Adds}
 use Rattle.record_files.proofs.Writing.{length_joined, written_through}

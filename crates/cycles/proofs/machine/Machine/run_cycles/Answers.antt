@@ -1,5 +1,5 @@
 use Rattle.std.proofs.Common.{◌≡◌, ◌-◌, false, ap, ◌∙◌, add-one, arith}
-use Rattle.cycles.specs.Cycle.{cycle_of, cycles_of, silent}
+use Rattle.cycles.specs.Cycle.{cycle_of, cycles_of}
 use Rattle.cycles.proofs.machine.Machine.run_cycles.Goals as goal
 
 pub loop-i-preserved : goal.loop-i-preserved

@@ -1,6 +1,6 @@
 use Rattle.std.proofs.Common.{◌≡◌, length, get_or, arith, rules}
 use Rattle.records.specs.Bytes.{byte0, byte1}
-use Rattle.records.specs.Trace.{kind_byte, opcode_byte, source_byte, cycles_number, marks_byte}
+use Rattle.records.specs.Trace.{cycles_number, marks_byte}
 use Rattle.records.proofs.Layouts.{spell}
 use Rattle.records.proofs.traces.TraceRecordRecord.take.Goals as goal
 
