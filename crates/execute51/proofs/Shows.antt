@@ -54,7 +54,7 @@ use Rattle.execute51.specs.Effect.{Effect, jumping, effect_of}
 use Rattle.execute51.specs.Fetch.{fetch_of}
 use Rattle.execute51.specs.Told.{to_port, port_write_of}
 use Rattle.execute51.specs.Execute.{target_byte, after, perform_of, decoded, instruction_of, execute_of}
-use Rattle.execute51.specs.Laws.{Accessed, Latched, Shown, Shows, AnswersTarget, Targets}
+use Rattle.execute51.specs.Laws.{Accessed, Latched, Shown, Shows, AnswersTarget, Targets, OpcodeShown, ShowsOpcode}
 
 -- what holds of a result, if it is accepted
 abbrev pub All : {A E : Type 0} → (A → Type 0) → Result A E → Type 0
@@ -444,8 +444,9 @@ reti_decoded op x y i e h =
     ∙ same_tests (is_reti_any (decode_steps op x y)) (eqb op 0x32)
     (holds_at (λ n. cond (is_reti_any (decode_steps n x y)) (eqb n 0x32) (not (eqb n 0x32))) 256 tt op h)
 
+-- all that an accepted instruction shows
 abbrev pub ShownAt : Chip → Memory → Told × (Chip × Memory) → Type 0
-ShownAt c m x = Shown c m x.0 x.1.0 x.1.1
+ShownAt c m x = Shown c m x.0 x.1.0 x.1.1 × OpcodeShown x.0
 
 decoded_told : {S : Type 0} (levels : Pins S) (o : Option Instruction) (f : Fetched) (c : Chip) (m : Memory)
     → decode_of f.opcode f.first f.second ≡ o → All (ShownAt c m) (decoded o f levels c m)
@@ -453,17 +454,18 @@ decoded_told levels None f c m e = tt
 decoded_told levels (Some i) f c m e =
     let h : f.opcode < 256 = an_opcode f.opcode f.first f.second i e in
     all_then (Performed i c m) (ShownAt c m) (perform_of levels i f.next c m) _ (perform_told levels i f.next c m)
-    (λ x k. record {
-      same_control = k.0;
-      reti_silent = reti_unpolled (is_reti_of i) (not (has_ie_or_ip (operands_of i)));
-      reti_opcode = reti_decoded f.opcode f.first f.second i e h;
-      some_cycle = (cycles_some f.opcode h).0;
-      most_cycles = (cycles_some f.opcode h).1;
-      never_three = (cycles_some f.opcode h).2;
-      silent_cycles = unpolled_hold f.opcode f.first f.second i e;
-      accesses = k.1;
-      latches = k.2;
-    })
+    (λ x k. (
+      record {
+        same_control = k.0;
+        reti_silent = reti_unpolled (is_reti_of i) (not (has_ie_or_ip (operands_of i)));
+        some_cycle = (cycles_some f.opcode h).0;
+        most_cycles = (cycles_some f.opcode h).1;
+        silent_cycles = unpolled_hold f.opcode f.first f.second i e;
+        accesses = k.1;
+        latches = k.2;
+      },
+      record { reti_opcode = reti_decoded f.opcode f.first f.second i e h; never_three = (cycles_some f.opcode h).2 },
+    ))
 
 instruction_told : {S : Type 0} (levels : Pins S) (c : Chip) (m : Memory) → All (ShownAt c m) (instruction_of levels c m)
 unfolding instruction_of
@@ -475,27 +477,28 @@ pub execute_told : {S : Type 0} (levels : Pins S) (c : Chip) (m : Memory) → Al
 unfolding execute_of
 execute_told levels c m =
     all_then (ShownAt c m) (ShownAt c m) (instruction_of levels c m) _ (instruction_told levels c m)
-    (λ x k. record {
-      same_control = k.same_control;
-      reti_silent = k.reti_silent;
-      reti_opcode = k.reti_opcode;
-      some_cycle = k.some_cycle;
-      most_cycles = k.most_cycles;
-      never_three = k.never_three;
-      silent_cycles = k.silent_cycles;
-      accesses = k.accesses;
-      latches = k.latches;
-    })
+    (λ x k. (
+      record {
+        same_control = k.0.same_control;
+        reti_silent = k.0.reti_silent;
+        some_cycle = k.0.some_cycle;
+        most_cycles = k.0.most_cycles;
+        silent_cycles = k.0.silent_cycles;
+        accesses = k.0.accesses;
+        latches = k.0.latches;
+      },
+      k.1,
+    ))
 
 -- the same of the call: a refusal shows nothing
 shows_kept : (c : Chip) (m : Memory) (x : Result (Told × (Chip × Memory)) Fault) → All (ShownAt c m) x
-    → Shows c m (kept (c, m) x).0 (kept (c, m) x).1.0 (kept (c, m) x).1.1
+    → Shows c m (kept (c, m) x).0 (kept (c, m) x).1.0 (kept (c, m) x).1.1 × ShowsOpcode (kept (c, m) x).0
 shows_kept c m (Ok x) h = h
-shows_kept c m (Err e) h = tt
+shows_kept c m (Err e) h = (tt, tt)
 
 -- so it holds of whatever the call's equation says
 pub execute_shows : {S : Type 0} (levels : Pins S) (c : Chip) (m : Memory) (r : Result Told Fault) (d : Chip) (n : Memory)
-    → (r, (d, n)) ≡ kept (c, m) (execute_of levels c m) → Shows c m r d n
+    → (r, (d, n)) ≡ kept (c, m) (execute_of levels c m) → Shows c m r d n × ShowsOpcode r
 execute_shows levels c m r d n e =
-    let P : Result Told Fault × (Chip × Memory) → Type 0 = λ x. Shows c m x.0 x.1.0 x.1.1 in
+    let P : Result Told Fault × (Chip × Memory) → Type 0 = λ x. Shows c m x.0 x.1.0 x.1.1 × ShowsOpcode x.0 in
     subst P (sym e) (shows_kept c m (execute_of levels c m) (execute_told levels c m))

@@ -28,12 +28,9 @@ pub record Shown (c : Chip) (m : Memory) (t : Told) (d : Chip) (n : Memory) : Ty
   -- IE and IP stay if a poll follows, and no poll follows RETI
   pub same_control : t.polls ≡ true → d.control ≡ c.control
   pub reti_silent : t.is_reti ≡ true → t.polls ≡ false
-  -- RETI is 32H
-  pub reti_opcode : t.is_reti ≡ (t.opcode == 0x32)
-  -- 1, 2 or 4 cycles, and at most 2 if no poll follows
+  -- 1 to 4 cycles, and at most 2 if no poll follows
   pub some_cycle : 0 < t.cycles
   pub most_cycles : t.cycles ≤ 4
-  pub never_three : t.cycles ≢ 3
   pub silent_cycles : t.polls ≡ false → t.cycles ≤ 2
   -- the data bytes change as the access tells
   pub accesses : Accessed t.access m.store n.store
@@ -44,6 +41,18 @@ pub record Shown (c : Chip) (m : Memory) (t : Told) (d : Chip) (n : Memory) : Ty
 abbrev pub Shows : Chip → Memory → Result Told Fault → Chip → Memory → Type 0
 Shows c m (Ok t) d n = Shown c m t d n
 Shows c m (Err e) d n = Unit {0}
+
+-- what the opcode and the cycles of every accepted instruction show
+pub record OpcodeShown (t : Told) : Type 0 where
+  -- RETI is 32H
+  pub reti_opcode : t.is_reti ≡ (t.opcode == 0x32)
+  -- so 1, 2 or 4 cycles
+  pub never_three : t.cycles ≢ 3
+
+-- a refused instruction tells nothing
+abbrev pub ShowsOpcode : Result Told Fault → Type 0
+ShowsOpcode (Ok t) = OpcodeShown t
+ShowsOpcode (Err e) = Unit {0}
 
 -- an accepted effect answers a byte for a target exactly if the instruction has one
 abbrev pub AnswersTarget : Instruction → Effect → Type 0

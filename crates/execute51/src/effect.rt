@@ -4,7 +4,7 @@ ghost use Rattle.outcome.specs.Outcome.{kept};
 ghost use Rattle.execute51.specs.Effect.{inside_chip, effect_steps, effect_of};
 
 use crate::external::Access;
-use crate::{arithmetic, boolean, control, logical, transfer};
+use crate::{arithmetical, boolean, control, logical, transfer};
 use buses::Bus;
 use core51::fault::Fault;
 use core51::state::Registers;
@@ -40,7 +40,7 @@ fn effect_steps<B: Bus>(
 {
     match i {
         Instruction::Arithmetic(i) => {
-            let byte = arithmetic::effect(registers, i, target, source);
+            let byte = arithmetical::effect(registers, i, target, source);
             Ok(inside(byte, next))
         }
         Instruction::Logical(i) => {

@@ -2,7 +2,7 @@
 ghost use Rattle.std.specs.Prelude.{◌≡◌};
 ghost use Rattle.outcome.specs.Outcome.{kept};
 ghost use Rattle.execute51.specs.Execute.{is_exchange, target_byte, perform_steps, perform_of, instruction_steps, instruction_of, execute_steps, execute_of};
-ghost use Rattle.execute51.specs.Laws.{Shows};
+ghost use Rattle.execute51.specs.Laws.{Shows, ShowsOpcode};
 
 use crate::effect::effect;
 use crate::fetch::fetch;
@@ -113,6 +113,7 @@ fn execute_steps<B: Bus, D: Board>(core: &mut Core, bus: &mut B, board: &D) -> R
 pub fn execute<B: Bus, D: Board>(core: &mut Core, bus: &mut B, board: &D) -> Result<Told, Fault>
     ensures effect { (result, (core.new.chip, B.memory bus.new)) ≡ kept (core.old.chip, B.memory bus.old) (execute_of (D.pins board.now) core.old.chip (B.memory bus.old)) }
     ensures shows { Shows core.old.chip (B.memory bus.old) result core.new.chip (B.memory bus.new) }
+    ensures opcode { ShowsOpcode result }
 {
     execute_steps(core, bus, board)
 }

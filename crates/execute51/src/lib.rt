@@ -1,7 +1,7 @@
 // The effect of every instruction: docs/CORE.md.
 #![tactic(auto)]
 
-mod arithmetic;
+mod arithmetical;
 mod boolean;
 pub mod cases;
 mod control;

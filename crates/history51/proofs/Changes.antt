@@ -126,8 +126,8 @@ module _ {S : Type 0} (w : World S) where
       all_then (ShownAt w.state.chip w.memory) Acted (execute_of w.pins w.state.chip w.memory) _
       (execute_told w.pins w.state.chip w.memory)
       (λ x h b. (
-        instruction_labelled w.state.chip w.memory x.0 x.1.0 x.1.1 h,
-        executed_change x.0 x.1.0 x.1.1 b e h x.0.polls x.0.is_reti refl refl,
+        instruction_labelled w.state.chip w.memory x.0 x.1.0 x.1.1 h.0 h.1,
+        executed_change x.0 x.1.0 x.1.1 b e h.0 x.0.polls x.0.is_reti refl refl,
       ))
 
   pub begin_changes : All Begun (begin_of w)

@@ -7,7 +7,7 @@ use Rattle.records.specs.Trace.{cycles_number}
 use Rattle.buses.specs.Memory.{Memory}
 use Rattle.core51.specs.declared.state.Chip.{Chip}
 use Rattle.execute51.specs.declared.told.Told.{Told}
-use Rattle.execute51.specs.Laws.{Shown}
+use Rattle.execute51.specs.Laws.{Shown, OpcodeShown}
 use Rattle.cycles.specs.declared.poll.Request.{Request}
 use Rattle.step51.specs.declared.action.Action.{Action}
 use Rattle.step51.specs.declared.action.Action.TheVariants.{Called, Executed}
@@ -40,10 +40,10 @@ kind_tells false true op h e = ap Instruction (eqb-true op 0x32 (sym e))
 kind_tells true false op h e = (op, refl, λ f. contra (eq-eqb op 0x32 f) (sym e))
 kind_tells false false op h e = (op, refl, λ f. contra (eq-eqb op 0x32 f) (sym e))
 
-pub instruction_labelled : (c : Chip) (m : Memory) (t : Told) (d : Chip) (n : Memory) → Shown c m t d n → Labelled (Executed t)
-instruction_labelled c m t d n h = record {
+pub instruction_labelled : (c : Chip) (m : Memory) (t : Told) (d : Chip) (n : Memory) → Shown c m t d n → OpcodeShown t → Labelled (Executed t)
+instruction_labelled c m t d n h k = record {
   some = h.some_cycle;
-  named = named_cycles t.cycles h.some_cycle h.most_cycles h.never_three;
+  named = named_cycles t.cycles h.some_cycle h.most_cycles k.never_three;
   same_polls = kind_polls t.polls t.is_reti;
-  told = kind_tells t.polls t.is_reti t.opcode h.reti_silent h.reti_opcode;
+  told = kind_tells t.polls t.is_reti t.opcode h.reti_silent k.reti_opcode;
 }
