@@ -3,8 +3,8 @@ use Rattle.std.specs.Prelude.{ℕ, Bool, ◌&&◌, ◌||◌}
 use Rattle.arithmetic.specs.Bits.{bit_of}
 use Rattle.cycles.specs.declared.sample.Sample.{Sample}
 
-abbrev pub requests : (ie0 tf0 ie1 tf1 ri-or-ti : Bool) → Sample
-requests ie0 tf0 ie1 tf1 ri-or-ti = record { external0 = ie0; timer0 = tf0; external1 = ie1; timer1 = tf1; serial = ri-or-ti }
+abbrev pub requests : (ie0 tf0 ie1 tf1 ri_or_ti : Bool) → Sample
+requests ie0 tf0 ie1 tf1 ri_or_ti = record { external0 = ie0; timer0 = tf0; external1 = ie1; timer1 = tf1; serial = ri_or_ti }
 
 -- IE0, TF0, IE1 and TF1 are bits 1, 5, 3 and 7 of TCON; RI and TI are bits 0 and 1 of SCON
 abbrev pub sample_of : ℕ → ℕ → Sample

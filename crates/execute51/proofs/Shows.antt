@@ -133,9 +133,9 @@ alike false x = refl
 put_control : (c : Chip) (a byte : ℕ) → a ≢ 0xa8 → a ≢ 0xb8 → (put_of c a byte).control ≡ c.control
 unfolding put_of
 put_control c a byte f g =
-    let not-ie = ne_eqb a 0xa8 f in
-    let not-ip = ne_eqb a 0xb8 g in
-    simp (control_cond, not-ie, not-ip, alike)
+    let not_ie = ne_eqb a 0xa8 f in
+    let not_ip = ne_eqb a 0xb8 g in
+    simp (control_cond, not_ie, not_ip, alike)
 
 write_control : (c : Chip) (p : Place) (byte : ℕ) → Elsewhere p → (write_of c p byte).control ≡ c.control
 unfolding write_of

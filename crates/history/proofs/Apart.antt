@@ -7,9 +7,9 @@ use Rattle.history.specs.Laws.{View, called, StepLaw, MachineLaw}
 use Rattle.history.proofs.Trail.{Trail, again, onward}
 use Rattle.history.specs.Marks.{contra, some_none, is_no_call, serves, ends_by_reti}
 
-module _ {W : Type 0} (mc : Machine W) (view : W → View) (ℓ M m : ℕ) {Sound : W → Type 0} (law : MachineLaw mc view ℓ M m Sound) (i : ℕ) (y : Step) (is-second : y.kind ≡ call i) (after : List Event) where
+module _ {W : Type 0} (mc : Machine W) (view : W → View) (ℓ M m : ℕ) {Sound : W → Type 0} (law : MachineLaw mc view ℓ M m Sound) (i : ℕ) (y : Step) (is_second : y.kind ≡ call i) (after : List Event) where
   pending_call : {old new : View} → StepLaw ℓ M m old y new → old.pending ≡ Some i
-  pending_call sl = sym sl.calls ∙ ap called is-second
+  pending_call sl = sym sl.calls ∙ ap called is_second
 
   -- after the RETI nothing is accepted, so an instruction or a reset comes before the second call
   after_reti : {w : W} (x : Step) (between : List Event) → x.kind ≡ reti → Trail mc w (between ++ (step y ∷ after)) → Sound w → (view w).pending ≡ None →

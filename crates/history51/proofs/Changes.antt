@@ -25,7 +25,7 @@ use Rattle.step51.specs.World.{World, world}
 use Rattle.step51.specs.Action.{count_of, port_of}
 use Rattle.step51.specs.Step.{with_chip, ended_if, act_on, act_of, driven_to, is_late, begin_of}
 use Rattle.history.specs.Events.{Kind, plain, control, reti, call, polls}
-use Rattle.history.specs.Laws.{called, most_cycles, Marked, Accessed as Law-accessed}
+use Rattle.history.specs.Laws.{called, most_cycles, Marked, Accessed as LawAccessed}
 use Rattle.history.specs.Cycles.{ChangeLaw, Changes}
 use Rattle.history.specs.Marks.{contra}
 use Rattle.history51.specs.View.{enabled_of, level_by, level_number, pending_of, serving_of, view_of}
@@ -33,7 +33,7 @@ use Rattle.history51.proofs.Labels.{Labelled, call_labelled, instruction_labelle
 use Rattle.history51.specs.Life.{kind_of, as_access, access_of, decided}
 
 -- the access of the law does what the access of the instruction does
-accessed : (a : Access) (old new : ℕ → Option ℕ) → Accessed a old new → Law-accessed (as_access a) old new
+accessed : (a : Access) (old new : ℕ → Option ℕ) → Accessed a old new → LawAccessed (as_access a) old new
 accessed Nothing old new h = h
 accessed (Read x b) old new h = h
 accessed (Write x b) old new h = h

@@ -2,7 +2,7 @@
 use Rattle.std.specs.Prelude.{◌+◌, ◌*◌, cond, List, is_some, Ok, Err, Result}
 use Rattle.boards.specs.Board.{Pins}
 use Rattle.core51.specs.declared.fault.Fault.{Fault}
-use Rattle.execute51.specs.declared.external.Access.{Access as Executed-access}
+use Rattle.execute51.specs.declared.external.Access.{Access as ExecutedAccess}
 use Rattle.execute51.specs.declared.external.Access.TheVariants.{Nothing, Read, Write}
 use Rattle.cycles.specs.Cycle.{polled_of, run_of}
 use Rattle.step51.specs.declared.action.Action.{Action}
@@ -23,7 +23,7 @@ kind_of (Called q) = call (level_number q.level)
 kind_of (Executed t) = cond t.polls plain (cond t.is_reti reti control)
 
 -- the access of MOVX
-abbrev pub as_access : Executed-access → Access
+abbrev pub as_access : ExecutedAccess → Access
 as_access Nothing = no_access
 as_access (Read address byte) = read address byte
 as_access (Write address byte) = write address byte
