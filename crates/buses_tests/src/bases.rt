@@ -22,7 +22,7 @@ fn split_edges(rt: HostRuntime) -> Result<(), Fail> {
         Read(1, Ok(9)),
         Code(1, Ok(2)),
     ];
-    try_all(&rt, &mut bus, &accesses);
+    try_all(&mut bus, &accesses)?;
     assert_eq!(rt; data[1], 9);
     Ok(())
 }
@@ -42,41 +42,38 @@ fn combined_edges(rt: HostRuntime) -> Result<(), Fail> {
         Read(0xFFFF, Err(NotFitted)),
         Write(2, 5, Err(NotFitted)),
     ];
-    try_all(&rt, &mut bus, &accesses);
+    try_all(&mut bus, &accesses)?;
     assert_eq!(rt; bytes[1], 5);
     Ok(())
 }
 
 // 65,536 bytes reach the last address.
 #[test]
-fn last_address(rt: HostRuntime) -> Result<(), Fail> {
+fn last_address() -> Result<(), Fail> {
     let code = [4; 65536];
     let mut data = [0; 65536];
     let Ok(mut split) = SplitBus::new(&code, &mut data) else {
         return Err(Fail::new("refused"));
     };
     try_all(
-        &rt,
         &mut split,
         &[
             Code(0xFFFF, Ok(4)),
             Write(0xFFFF, 9, Ok(())),
             Read(0xFFFF, Ok(9)),
         ],
-    );
+    )?;
     let Ok(mut combined) = CombinedBus::new(&mut data) else {
         return Err(Fail::new("refused"));
     };
     try_all(
-        &rt,
         &mut combined,
         &[
             Code(0xFFFF, Ok(9)),
             Write(0xFFFF, 3, Ok(())),
             Code(0xFFFF, Ok(3)),
         ],
-    );
-    Ok(())
+    )
 }
 
 // The number with which a split bus is refused, and 0 where it is built.

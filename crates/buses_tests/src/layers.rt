@@ -5,7 +5,7 @@ use buses::{CombinedBus, Fence, Page, Shift, SplitBus};
 use std::test::Fail;
 
 #[test]
-fn shift_by_none(rt: HostRuntime) -> Result<(), Fail> {
+fn shift_by_none() -> Result<(), Fail> {
     let code = [1, 2];
     let mut data = [7, 8];
     let Ok(bus) = SplitBus::new(&code, &mut data) else {
@@ -18,8 +18,7 @@ fn shift_by_none(rt: HostRuntime) -> Result<(), Fail> {
         Write(2, 9, Err(NotFitted)),
         Code(0xFFFF, Err(NotFitted)),
     ];
-    try_all(&rt, &mut Shift::new(bus, 0), &accesses);
-    Ok(())
+    try_all(&mut Shift::new(bus, 0), &accesses)
 }
 
 // Address 1 of the layer is address 0 below, and 0 is FFFFH.
@@ -39,13 +38,13 @@ fn shift_by_most(rt: HostRuntime) -> Result<(), Fail> {
         Read(2, Ok(8)),
         Write(3, 9, Err(NotFitted)),
     ];
-    try_all(&rt, &mut Shift::new(bus, 0xFFFF), &accesses);
+    try_all(&mut Shift::new(bus, 0xFFFF), &accesses)?;
     assert_eq!(rt; data[0], 9);
     Ok(())
 }
 
 #[test]
-fn fence_of_one(rt: HostRuntime) -> Result<(), Fail> {
+fn fence_of_one() -> Result<(), Fail> {
     let mut bytes = [1, 2, 3];
     let Ok(bus) = CombinedBus::new(&mut bytes) else {
         return Err(Fail::new("refused"));
@@ -61,13 +60,12 @@ fn fence_of_one(rt: HostRuntime) -> Result<(), Fail> {
         Code(1, Ok(2)),
         Code(2, Ok(9)),
     ];
-    try_all(&rt, &mut fence, &accesses);
-    Ok(())
+    try_all(&mut fence, &accesses)
 }
 
 // A fenced address with no data byte is not fitted.
 #[test]
-fn fence_of_all(rt: HostRuntime) -> Result<(), Fail> {
+fn fence_of_all() -> Result<(), Fail> {
     let mut bytes = [1, 2, 3];
     let Ok(bus) = CombinedBus::new(&mut bytes) else {
         return Err(Fail::new("refused"));
@@ -82,8 +80,7 @@ fn fence_of_all(rt: HostRuntime) -> Result<(), Fail> {
         Write(0xFFFF, 9, Err(NotFitted)),
         Read(2, Ok(3)),
     ];
-    try_all(&rt, &mut fence, &accesses);
-    Ok(())
+    try_all(&mut fence, &accesses)
 }
 
 // A refused fence gives the bus below back.
@@ -98,8 +95,7 @@ fn fence_refused(rt: HostRuntime) -> Result<(), Fail> {
     };
     assert_eq!(rt; rejected.refusal.number(), 2);
     let mut below = rejected.given;
-    try_all(&rt, &mut below, &[Write(1, 9, Ok(())), Code(1, Ok(9))]);
-    Ok(())
+    try_all(&mut below, &[Write(1, 9, Ok(())), Code(1, Ok(9))])
 }
 
 // The page at 00H covers the data of the bus below; its code stays.
@@ -119,14 +115,14 @@ fn first_page(rt: HostRuntime) -> Result<(), Fail> {
         Code(0x100, Ok(8)),
         Read(0x101, Err(NotFitted)),
     ];
-    try_all(&rt, &mut Page::new(bus, 0), &accesses);
+    try_all(&mut Page::new(bus, 0), &accesses)?;
     assert_eq!(rt; bytes[255], 5);
     Ok(())
 }
 
 // The page at FFH has data where the bus below has none.
 #[test]
-fn last_page(rt: HostRuntime) -> Result<(), Fail> {
+fn last_page() -> Result<(), Fail> {
     let mut bytes = [5];
     let Ok(bus) = CombinedBus::new(&mut bytes) else {
         return Err(Fail::new("refused"));
@@ -139,6 +135,5 @@ fn last_page(rt: HostRuntime) -> Result<(), Fail> {
         Write(0xFEFF, 9, Err(NotFitted)),
         Read(0, Ok(5)),
     ];
-    try_all(&rt, &mut Page::new(bus, 0xFF), &accesses);
-    Ok(())
+    try_all(&mut Page::new(bus, 0xFF), &accesses)
 }

@@ -7,7 +7,7 @@ use std::test::Fail;
 
 // A page over a fence can be written; a fence over a page cannot.
 #[test]
-fn page_and_fence(rt: HostRuntime) -> Result<(), Fail> {
+fn page_and_fence() -> Result<(), Fail> {
     let mut bytes = [5; 512];
     let Ok(bus) = CombinedBus::new(&mut bytes) else {
         return Err(Fail::new("refused"));
@@ -17,14 +17,13 @@ fn page_and_fence(rt: HostRuntime) -> Result<(), Fail> {
     };
     let mut page = Page::new(below, 1);
     try_all(
-        &rt,
         &mut page,
         &[
             Exchange(0xFF, 9, Err(Fenced)),
             Exchange(0x100, 9, Ok(0)),
             Read(0x100, Ok(9)),
         ],
-    );
+    )?;
     let Ok(mut fence) = Fence::new(page, 0x100, 0x100) else {
         return Err(Fail::new("refused"));
     };
@@ -34,13 +33,12 @@ fn page_and_fence(rt: HostRuntime) -> Result<(), Fail> {
         Read(0x100, Ok(9)),
         Code(0x101, Ok(5)),
     ];
-    try_all(&rt, &mut fence, &accesses);
-    Ok(())
+    try_all(&mut fence, &accesses)
 }
 
 // A shift over a page moves the page; a page over a shift stays at its addresses.
 #[test]
-fn page_and_shift(rt: HostRuntime) -> Result<(), Fail> {
+fn page_and_shift() -> Result<(), Fail> {
     let mut bytes = [5; 513];
     let Ok(bus) = CombinedBus::new(&mut bytes) else {
         return Err(Fail::new("refused"));
@@ -52,7 +50,7 @@ fn page_and_shift(rt: HostRuntime) -> Result<(), Fail> {
         Exchange(1, 8, Ok(0)),
         Code(1, Ok(5)),
     ];
-    try_all(&rt, &mut moved, &accesses);
+    try_all(&mut moved, &accesses)?;
     let accesses = [
         Exchange(1, 6, Ok(0)),
         Read(1, Ok(6)),
@@ -61,13 +59,12 @@ fn page_and_shift(rt: HostRuntime) -> Result<(), Fail> {
         Exchange(0x101, 4, Ok(5)),
         Code(0x101, Ok(4)),
     ];
-    try_all(&rt, &mut Page::new(moved, 0), &accesses);
-    Ok(())
+    try_all(&mut Page::new(moved, 0), &accesses)
 }
 
 // A shift over a fence moves the fence; a fence over a shift has its own addresses.
 #[test]
-fn fence_and_shift(rt: HostRuntime) -> Result<(), Fail> {
+fn fence_and_shift() -> Result<(), Fail> {
     let mut bytes = [5; 4];
     let Ok(bus) = CombinedBus::new(&mut bytes) else {
         return Err(Fail::new("refused"));
@@ -77,14 +74,13 @@ fn fence_and_shift(rt: HostRuntime) -> Result<(), Fail> {
     };
     let mut moved = Shift::new(below, 1);
     try_all(
-        &rt,
         &mut moved,
         &[
             Exchange(1, 9, Err(Fenced)),
             Exchange(2, 9, Ok(5)),
             Exchange(0xFFFF, 9, Ok(5)),
         ],
-    );
+    )?;
     let Ok(mut fence) = Fence::new(moved, 2, 3) else {
         return Err(Fail::new("refused"));
     };
@@ -95,8 +91,7 @@ fn fence_and_shift(rt: HostRuntime) -> Result<(), Fail> {
         Code(0, Ok(7)),
         Code(2, Ok(9)),
     ];
-    try_all(&rt, &mut fence, &accesses);
-    Ok(())
+    try_all(&mut fence, &accesses)
 }
 
 // Shift over page over fence.
@@ -119,7 +114,7 @@ fn shift_on_top(rt: HostRuntime) -> Result<(), Fail> {
         Code(0xFF00, Ok(8)),
         Exchange(0x300, 8, Err(NotFitted)),
     ];
-    try_all(&rt, &mut pile, &accesses);
+    try_all(&mut pile, &accesses)?;
     assert_eq!(rt; bytes[0x300], 9);
     Ok(())
 }
@@ -142,7 +137,7 @@ fn fence_on_top(rt: HostRuntime) -> Result<(), Fail> {
         Code(0x200, Ok(9)),
         Exchange(0, 9, Err(NotFitted)),
     ];
-    try_all(&rt, &mut pile, &accesses);
+    try_all(&mut pile, &accesses)?;
     assert_eq!(rt; bytes[0x100], 9);
     Ok(())
 }
@@ -165,7 +160,7 @@ fn page_on_top(rt: HostRuntime) -> Result<(), Fail> {
         Code(0x200, Ok(5)),
         Exchange(0x300, 9, Err(NotFitted)),
     ];
-    try_all(&rt, &mut Page::new(below, 2), &accesses);
+    try_all(&mut Page::new(below, 2), &accesses)?;
     assert_eq!(rt; bytes[0xFE], 9);
     Ok(())
 }
