@@ -1,5 +1,6 @@
-use Rattle.std.proofs.Common.{◌≡◌, ℕ, Ok, Err, Option, Result, sym, ap, ◌∙◌, arith}
+use Rattle.std.proofs.Common.{◌≡◌, ℕ, Ok, Option, Result, sym, ap, ◌∙◌}
 use Rattle.outcome.specs.Outcome.{kept, then}
+use Rattle.outcome.proofs.Kept.{kept_ok}
 use Rattle.boards.specs.Board.{Pins}
 use Rattle.buses.specs.Memory.{Memory}
 use Rattle.instructions.specs.declared.Instruction.{Instruction}
@@ -18,18 +19,6 @@ use Rattle.execute51.specs.Told.{port_write_of, done_of}
 use Rattle.execute51.specs.Effect.{effect_of}
 use Rattle.execute51.specs.Execute.{target_byte, going_on, after, perform_steps}
 use Rattle.execute51.proofs.execute.perform_steps.Goals as goal
-
--- an accepted outcome, from the answer and the state that it leaves
-accepted : {S A E : Type 0} (s t : S) (a : A) (x : Result (A × S) E) → ◌≡◌ {A = Result A E × S} (Ok a, t) (kept s x) → x ≡ Ok (a, t)
-accepted {S = S} {A = A} {E = E} s t a (Ok y) e =
-    let p : ◌≡◌ {A = Result A E} (Ok a) (Ok y.0) = ap (λ (x : Result A E × S). x.0) e in
-    let q : t ≡ y.1 = ap (λ (x : Result A E × S). x.1) e in
-    let r : a ≡ y.0 = cc in
-    sym (ap (λ (x : A). Ok (x, t)) r ∙ ap (λ (x : S). Ok (y.0, x)) q)
-accepted {S = S} {A = A} {E = E} s t a (Err d) e =
-    let p : ◌≡◌ {A = Result A E} (Ok a) (Err d) = ap (λ (x : Result A E × S). x.0) e in
-    let z : ◌≡◌ {A = ℕ} 0 1 = cc in
-    absurd (omega arith)
 
 module _ {S : Type 0} (levels : Pins S) (i : Instruction) (next : ℕ) (c : Chip) (m : Memory) where
   -- what follows the effect
@@ -50,7 +39,7 @@ module _ {S : Type 0} (levels : Pins S) (i : Instruction) (next : ℕ) (c : Chip
       let found : places_of c.registers (operands_of i) ≡ Ok p = sym (ep ∙ ap (places_of c.registers) eo) in
       let made : effect_of i next (target_byte levels c i p.target) (read_of levels c p.source) c.registers m ≡ Ok (a, (r, n)) =
       ap (λ (x : ℕ). effect_of i next x (read_of levels c p.source) c.registers m) (sym et) ∙ ap (λ (x : ℕ). effect_of i next t x c.registers m) (sym es)
-      ∙ accepted (c.registers, m) (r, n) a (effect_of i next t s c.registers m) ee in
+      ∙ kept_ok (c.registers, m) (r, n) a (effect_of i next t s c.registers m) ee in
       let whole : perform_steps levels i next c m ≡ Ok (done_of p.target a, (after c p.target a r, n)) = ap going found ∙ ap (ending p) made in
       ap (λ (x : Option PortWrite). (Ok (record { port = x; access = a.access }), (going_on d a.next, n))) ew
       ∙ ap (λ (x : Chip). (Ok (done_of p.target a), (going_on x a.next, n))) ed

@@ -4,7 +4,7 @@ use Rattle.record_files.specs.Text.{printed}
 use Rattle.boards.specs.Played.{played_by}
 use Rattle.boards.specs.Script.{load_of}
 use Rattle.output51.specs.Output.{text, ran}
-use Rattle.output51.proofs.Kept.{kept_ok}
+use Rattle.outcome.proofs.Kept.{kept_ok}
 use Rattle.output51.proofs.output.write_traced.Goals as goal
 
 pub returns-in-Ok : goal.returns-in-Ok
