@@ -15,3 +15,11 @@ kept_ok s t x (Ok y) e =
     let z : (x, t) ≡ (y.0, y.1) = cc in
     ap Ok (sym z)
 kept_ok s t x (Err d) e = absurd (ok_err x d (ap (λ p. p.0) e))
+
+-- a refusal leaves the state as it was
+err_same : {A E : Type 0} (a b : E) → ◌≡◌ {A = Result A E} (Err a) (Err b) → a ≡ b
+err_same a b e = cc
+
+pub kept_err : {S R E : Type 0} (s t : S) (x : E) (r : Result (R × S) E) → (Err x, t) ≡ kept s r → (r ≡ Err x) × (t ≡ s)
+kept_err s t x (Ok y) e = absurd (ok_err y.0 x (sym (ap (λ p. p.0) e)))
+kept_err s t x (Err d) e = (ap Err (sym (err_same x d (ap (λ p. p.0) e))), ap (λ p. p.1) e)

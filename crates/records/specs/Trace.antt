@@ -68,6 +68,13 @@ kind_of kind opcode source =
     cond (kind == 0 && source == 0) (Ok (Instruction opcode))
     (cond (kind == 1 && opcode == 0) (then (source_of source) (λ s. Ok (VectorCall s))) (Err FieldOutsideLayout))
 
+-- the three bytes together, and taken apart again
+abbrev pub kind_bytes : StepKind → List ℕ
+kind_bytes k = kind_byte k ∷ opcode_byte k ∷ source_byte k ∷ []
+
+abbrev pub kind_taken : List ℕ → Result StepKind Refusal
+kind_taken bs = kind_of (slice_index bs 0) (slice_index bs 1) (slice_index bs 2)
+
 abbrev pub trace_bytes : TraceRecord → List ℕ
 trace_bytes t =
     kind_byte t.kind ∷ byte1 t.pc ∷ byte0 t.pc ∷ opcode_byte t.kind

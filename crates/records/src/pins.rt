@@ -7,17 +7,26 @@ use crate::record::{Record, store};
 use crate::refusals::Refusal;
 
 // A port's pins have this level from this machine cycle on.
-#[derive(Clone, Copy)]
+#[derive(Clone, Copy, Debug, PartialEq, Eq)]
 pub struct PinRecord {
     pub cycle: u32,
     pub port: Port,
     pub level: u8,
 }
 
+impl PinRecord {
+    // What the free places of a memory are filled with.
+    pub const BLANK: PinRecord = PinRecord {
+        cycle: 0,
+        port: Port::P0,
+        level: 0,
+    };
+}
+
 impl Record for PinRecord {
     const WIDTH: usize = 8;
 
-    ghost width = { 8 };
+    ghost WIDTH = { 8 };
 
     ghost image = { pin_bytes };
 
@@ -31,20 +40,19 @@ impl Record for PinRecord {
 
     ghost sized = { λ r. refl };
 
-    fn size() -> usize {
-        Self::WIDTH
-    }
-
     fn put(&self, out: &mut [u8]) -> Result<(), Refusal> {
         let [c3, c2, c1, c0] = self.cycle.to_be_bytes();
-        store(&[c3, c2, c1, c0, self.port.number(), self.level, 0, 0], out)
+        store(
+            &[c3, c2, c1, c0, u8::from(self.port), self.level, 0, 0],
+            out,
+        )
     }
 
     fn take(bytes: &[u8]) -> Result<PinRecord, Refusal> {
         match bytes {
             [c3, c2, c1, c0, port, level, 0, 0] => {
                 let cycle = u32::from_be_bytes([*c3, *c2, *c1, *c0]);
-                let port = Port::from_number(*port)?;
+                let port = Port::try_from(*port)?;
                 Ok(PinRecord {
                     cycle,
                     port,

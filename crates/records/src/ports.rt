@@ -4,7 +4,7 @@ ghost use Rattle.records.specs.Port.{port_number, port_of};
 use crate::refusals::Refusal;
 
 // One of the four ports.
-#[derive(Clone, Copy)]
+#[derive(Clone, Copy, Debug, PartialEq, Eq)]
 pub enum Port {
     P0,
     P1,
@@ -12,23 +12,27 @@ pub enum Port {
     P3,
 }
 
-impl Port {
-    pub fn number(self) -> u8
-        ensures value { result ≡ port_number self }
-        ensures back { port_of result ≡ Ok self }
-    {
-        match self {
+// The number of a port, which gives the port back.
+impl From<Port> for u8 {
+    ghost from_gives = { λ p n. (n ≡ port_number p) × (port_of n ≡ Ok p) };
+
+    fn from(port: Port) -> u8 {
+        match port {
             Port::P0 => 0,
             Port::P1 => 1,
             Port::P2 => 2,
             Port::P3 => 3,
         }
     }
+}
 
-    pub fn from_number(n: u8) -> Result<Port, Refusal>
-        ensures value { result ≡ port_of n }
-        ensures exact { IfOk result (λ p. port_number p ≡ n) }
-    {
+// The port that has just this number.
+impl TryFrom<u8> for Port {
+    type Error = Refusal;
+
+    ghost try_from_gives = { λ n r. (r ≡ port_of n) × IfOk r (λ p. port_number p ≡ n) };
+
+    fn try_from(n: u8) -> Result<Port, Refusal> {
         match n {
             0 => Ok(Port::P0),
             1 => Ok(Port::P1),

@@ -10,7 +10,7 @@ pub trait Record: Copy {
     // bytes of a record
     const WIDTH: usize;
 
-    ghost width: { ℕ };
+    ghost WIDTH: { ℕ };
 
     ghost image: { Self → List ℕ };
 
@@ -18,15 +18,11 @@ pub trait Record: Copy {
 
     ghost ordered: { Self → Self → Bool };
 
-    ghost wide: { 0 < width };
+    ghost wide: { 0 < WIDTH };
 
-    ghost narrow: { width ≤ 16 };
+    ghost narrow: { WIDTH ≤ 16 };
 
-    ghost sized: { (r : Self) → length (image r) ≡ width };
-
-    // The constant WIDTH, in a form that generic code can rely on.
-    fn size() -> usize
-        ensures { result ≡ width };
+    ghost sized: { (r : Self) → length (image r) ≡ WIDTH };
 
     // Writes the record's bytes to the front of a memory.
     fn put(&self, out: &mut [u8]) -> Result<(), Refusal>

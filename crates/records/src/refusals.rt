@@ -11,11 +11,12 @@ pub enum Refusal {
     LogFull,
 }
 
-impl Refusal {
-    pub fn number(self) -> u8
-        ensures { result ≡ number_of self }
-    {
-        match self {
+// The number of a refusal.
+impl From<Refusal> for u8 {
+    ghost from_gives = { λ r n. n ≡ number_of r };
+
+    fn from(refusal: Refusal) -> u8 {
+        match refusal {
             Refusal::FileLength => 3,
             Refusal::FieldOutsideLayout => 4,
             Refusal::CycleBelowTheOneBefore => 5,

@@ -1,12 +1,12 @@
 ghost use Rattle.std.specs.Prelude.{◌≡◌, ℕ, ◌<◌, ◌≤◌, IfOk, Ok, refl};
 ghost use Rattle.std.proofs.Common.{lit<, lit≤};
-ghost use Rattle.records.specs.Trace.{source_number, source_of, cycles_number, cycles_of, marks_byte, marks_of, kind_byte, opcode_byte, source_byte, kind_of, trace_bytes, trace_taken, trace_ordered};
+ghost use Rattle.records.specs.Trace.{source_number, source_of, cycles_number, cycles_of, marks_byte, marks_of, kind_byte, opcode_byte, source_byte, kind_of, kind_bytes, kind_taken, trace_bytes, trace_taken, trace_ordered};
 
 use crate::record::{Record, store};
 use crate::refusals::Refusal;
 
 // One of the five interrupt sources, in the order of their numbers 1 to 5.
-#[derive(Clone, Copy)]
+#[derive(Clone, Copy, Debug, PartialEq, Eq)]
 pub enum Source {
     External0,
     Timer0,
@@ -16,14 +16,14 @@ pub enum Source {
 }
 
 // What a step was.
-#[derive(Clone, Copy)]
+#[derive(Clone, Copy, Debug, PartialEq, Eq)]
 pub enum StepKind {
     Instruction { opcode: u8 },
     VectorCall { source: Source },
 }
 
 // The machine cycles of a step.
-#[derive(Clone, Copy)]
+#[derive(Clone, Copy, Debug, PartialEq, Eq)]
 pub enum Cycles {
     One,
     Two,
@@ -31,14 +31,14 @@ pub enum Cycles {
 }
 
 // Which services are in progress.
-#[derive(Clone, Copy)]
+#[derive(Clone, Copy, Debug, PartialEq, Eq)]
 pub struct Marks {
     pub low: bool,
     pub high: bool,
 }
 
 // One step: what it was, the PC before it, its cycles, and the marks and the accumulator after it.
-#[derive(Clone, Copy)]
+#[derive(Clone, Copy, Debug, PartialEq, Eq)]
 pub struct TraceRecord {
     pub kind: StepKind,
     pub pc: u16,
@@ -47,12 +47,26 @@ pub struct TraceRecord {
     pub accumulator: u8,
 }
 
-impl Source {
-    fn number(self) -> u8
-        ensures value { result ≡ source_number self }
-        ensures back { source_of result ≡ Ok self }
-    {
-        match self {
+impl TraceRecord {
+    // What the free places of a memory are filled with.
+    pub const BLANK: TraceRecord = TraceRecord {
+        kind: StepKind::Instruction { opcode: 0 },
+        pc: 0,
+        cycles: Cycles::One,
+        marks: Marks {
+            low: false,
+            high: false,
+        },
+        accumulator: 0,
+    };
+}
+
+// The number of a source, which gives the source back.
+impl From<Source> for u8 {
+    ghost from_gives = { λ s n. (n ≡ source_number s) × (source_of n ≡ Ok s) };
+
+    fn from(source: Source) -> u8 {
+        match source {
             Source::External0 => 1,
             Source::Timer0 => 2,
             Source::External1 => 3,
@@ -60,11 +74,14 @@ impl Source {
             Source::Serial => 5,
         }
     }
+}
 
-    fn from_number(n: u8) -> Result<Source, Refusal>
-        ensures value { result ≡ source_of n }
-        ensures exact { IfOk result (λ s. source_number s ≡ n) }
-    {
+impl TryFrom<u8> for Source {
+    type Error = Refusal;
+
+    ghost try_from_gives = { λ n r. (r ≡ source_of n) × IfOk r (λ s. source_number s ≡ n) };
+
+    fn try_from(n: u8) -> Result<Source, Refusal> {
         match n {
             1 => Ok(Source::External0),
             2 => Ok(Source::Timer0),
@@ -76,22 +93,24 @@ impl Source {
     }
 }
 
-impl Cycles {
-    fn number(self) -> u8
-        ensures value { result ≡ cycles_number self }
-        ensures back { cycles_of result ≡ Ok self }
-    {
-        match self {
+impl From<Cycles> for u8 {
+    ghost from_gives = { λ c n. (n ≡ cycles_number c) × (cycles_of n ≡ Ok c) };
+
+    fn from(cycles: Cycles) -> u8 {
+        match cycles {
             Cycles::One => 1,
             Cycles::Two => 2,
             Cycles::Four => 4,
         }
     }
+}
 
-    fn from_number(n: u8) -> Result<Cycles, Refusal>
-        ensures value { result ≡ cycles_of n }
-        ensures exact { IfOk result (λ c. cycles_number c ≡ n) }
-    {
+impl TryFrom<u8> for Cycles {
+    type Error = Refusal;
+
+    ghost try_from_gives = { λ n r. (r ≡ cycles_of n) × IfOk r (λ c. cycles_number c ≡ n) };
+
+    fn try_from(n: u8) -> Result<Cycles, Refusal> {
         match n {
             1 => Ok(Cycles::One),
             2 => Ok(Cycles::Two),
@@ -101,18 +120,21 @@ impl Cycles {
     }
 }
 
-impl Marks {
-    fn byte(self) -> u8
-        ensures value { result ≡ marks_byte self }
-        ensures back { marks_of result ≡ Ok self }
-    {
-        self.low as u8 + 2 * self.high as u8
-    }
+// The marks as the bits of a byte.
+impl From<Marks> for u8 {
+    ghost from_gives = { λ m b. (b ≡ marks_byte m) × (marks_of b ≡ Ok m) };
 
-    fn from_byte(b: u8) -> Result<Marks, Refusal>
-        ensures value { result ≡ marks_of b }
-        ensures exact { IfOk result (λ m. marks_byte m ≡ b) }
-    {
+    fn from(marks: Marks) -> u8 {
+        marks.low as u8 + 2 * marks.high as u8
+    }
+}
+
+impl TryFrom<u8> for Marks {
+    type Error = Refusal;
+
+    ghost try_from_gives = { λ b r. (r ≡ marks_of b) × IfOk r (λ m. marks_byte m ≡ b) };
+
+    fn try_from(b: u8) -> Result<Marks, Refusal> {
         if b > 3 {
             return Err(Refusal::FieldOutsideLayout);
         }
@@ -123,26 +145,28 @@ impl Marks {
     }
 }
 
-impl StepKind {
-    // The record's bytes kind, opcode and source.
-    fn bytes(self) -> (u8, u8, u8)
-        ensures value { result ≡ (kind_byte self, opcode_byte self, source_byte self) }
-        ensures back { kind_of result.0 result.1 result.2 ≡ Ok self }
-    {
-        match self {
-            StepKind::Instruction { opcode } => (0, opcode, 0),
-            StepKind::VectorCall { source } => (1, 0, source.number()),
+// A record's bytes kind, opcode and source.
+impl From<StepKind> for [u8; 3] {
+    ghost from_gives = { λ k b. (b ≡ kind_bytes k) × (kind_of (kind_byte k) (opcode_byte k) (source_byte k) ≡ Ok k) };
+
+    fn from(kind: StepKind) -> [u8; 3] {
+        match kind {
+            StepKind::Instruction { opcode } => [0, opcode, 0],
+            StepKind::VectorCall { source } => [1, 0, u8::from(source)],
         }
     }
+}
 
-    fn from_bytes(kind: u8, opcode: u8, source: u8) -> Result<StepKind, Refusal>
-        ensures value { result ≡ kind_of kind opcode source }
-        ensures exact { IfOk result (λ k. (kind_byte k ≡ kind) × (opcode_byte k ≡ opcode) × (source_byte k ≡ source)) }
-    {
-        match (kind, opcode, source) {
-            (0, opcode, 0) => Ok(StepKind::Instruction { opcode }),
-            (1, 0, source) => Ok(StepKind::VectorCall {
-                source: Source::from_number(source)?,
+impl TryFrom<[u8; 3]> for StepKind {
+    type Error = Refusal;
+
+    ghost try_from_gives = { λ b r. (r ≡ kind_taken b) × IfOk r (λ k. kind_bytes k ≡ b) };
+
+    fn try_from(bytes: [u8; 3]) -> Result<StepKind, Refusal> {
+        match bytes {
+            [0, opcode, 0] => Ok(StepKind::Instruction { opcode }),
+            [1, 0, source] => Ok(StepKind::VectorCall {
+                source: Source::try_from(source)?,
             }),
             _ => Err(Refusal::FieldOutsideLayout),
         }
@@ -152,7 +176,7 @@ impl StepKind {
 impl Record for TraceRecord {
     const WIDTH: usize = 8;
 
-    ghost width = { 8 };
+    ghost WIDTH = { 8 };
 
     ghost image = { trace_bytes };
 
@@ -166,26 +190,20 @@ impl Record for TraceRecord {
 
     ghost sized = { λ r. refl };
 
-    fn size() -> usize {
-        Self::WIDTH
-    }
-
     fn put(&self, out: &mut [u8]) -> Result<(), Refusal> {
-        let (kind, opcode, source) = self.kind.bytes();
-        let [pc1, pc0] = self.pc.to_be_bytes();
-        let cycles = self.cycles.number();
-        let marks = self.marks.byte();
+        let TraceRecord {
+            kind,
+            pc,
+            cycles,
+            marks,
+            accumulator,
+        } = *self;
+        let [kind, opcode, source] = <[u8; 3]>::from(kind);
+        let [pc1, pc0] = pc.to_be_bytes();
+        let cycles = u8::from(cycles);
+        let marks = u8::from(marks);
         store(
-            &[
-                kind,
-                pc1,
-                pc0,
-                opcode,
-                cycles,
-                source,
-                marks,
-                self.accumulator,
-            ],
+            &[kind, pc1, pc0, opcode, cycles, source, marks, accumulator],
             out,
         )
     }
@@ -194,9 +212,9 @@ impl Record for TraceRecord {
         match bytes {
             [kind, pc1, pc0, opcode, cycles, source, marks, accumulator] => {
                 let pc = u16::from_be_bytes([*pc1, *pc0]);
-                let kind = StepKind::from_bytes(*kind, *opcode, *source)?;
-                let cycles = Cycles::from_number(*cycles)?;
-                let marks = Marks::from_byte(*marks)?;
+                let kind = StepKind::try_from([*kind, *opcode, *source])?;
+                let cycles = Cycles::try_from(*cycles)?;
+                let marks = Marks::try_from(*marks)?;
                 Ok(TraceRecord {
                     kind,
                     pc,
