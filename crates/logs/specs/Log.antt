@@ -40,6 +40,11 @@ extend_of l rs = cond (nat_lt (length l.free) (length rs)) (Err TooLittleRoom) (
 abbrev pub Adds : {R : Type 0} → Entries R → Entries R → List R → Type 0
 Adds l l' rs = length rs ≤ length l.free → l' ≡ entered l rs
 
+-- the log still lends its memory, and has the records rs more, if there was room for them
+pub record Extends {R : Type 0} (before after : Log R) (rs : List R) : Type 0 where
+  pub adds : Adds (held before) (held after) rs
+  pub lent : after.places.ghost_name ≡ before.places.ghost_name
+
 -- the record at a place, counted from 0; past the last one there is none
 abbrev pub entry_of : {R : Type 0} → Entries R → ℕ → Option R
 entry_of l i = slice_get l.made i

@@ -21,11 +21,18 @@ impl<'a, R: Copy> Log<'a, R> {
         Log { places, used: 0 }
     }
 
+    // Its records, from the first to the last.
+    pub fn records(&self) -> &[R]
+        ensures { result.now ≡ (held self.now).made }
+    {
+        &self.places[0..self.used.min(self.places.len())]
+    }
+
     // The number of records in it.
     pub fn len(&self) -> usize
         ensures { result ≡ length (held self.now).made }
     {
-        self.used.min(self.capacity())
+        self.records().len()
     }
 
     // The number of records that it has places for.
@@ -79,20 +86,6 @@ impl<'a, R: Copy> Log<'a, R> {
     pub fn entry(&self, i: usize) -> Option<R>
         ensures { result ≡ entry_of (held self.now) i }
     {
-        if i >= self.used {
-            return None;
-        }
-        place(self.places, i)
-    }
-}
-
-// What a place of a memory holds, if there is such a place.
-fn place<R: Copy>(places: &[R], i: usize) -> Option<R>
-    ensures { result ≡ slice_get places.now i }
-{
-    if i < places.len() {
-        Some(places[i])
-    } else {
-        None
+        self.records().get(i).copied()
     }
 }

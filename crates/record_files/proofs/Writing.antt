@@ -1,7 +1,8 @@
 -- How bytes are written one part after the other.
-use Rattle.std.proofs.Common.{◌≡◌, ℕ, zero, suc, ◌+◌, ◌*◌, ◌<◌, ◌≤◌, true, false, cond, ltb, List, [], ◌∷◌, ◌++◌, length, take, drop, Ok, Err, Result, sym, refl, ap, ◌∙◌, subst, suc-mul, add_comm, zero-mul, add-one, length-append, rules}
+use Rattle.std.proofs.Common.{◌≡◌, ℕ, zero, suc, ◌+◌, ◌*◌, ◌<◌, ◌≤◌, true, false, cond, ltb, List, [], ◌∷◌, ◌++◌, length, take, drop, get_or, Some, Ok, Err, Result, sym, refl, ap, ◌∙◌, subst, suc-mul, add_comm, zero-mul, add-one, length-append, rules}
 use Rattle.std.specs.List.{slice_get, flat_map}
 use Rattle.std.proofs.lemmas.List.{append-nil, append_assoc, take-append-drop}
+use Rattle.std.proofs.lemmas.Option.{slice_get-get_or}
 use Rattle.outcome.specs.Outcome.{kept}
 use Rattle.records.specs.declared.refusals.Refusal.{Refusal}
 use Rattle.records.specs.declared.refusals.Refusal.TheVariants.{TooLittleRoom}
@@ -26,9 +27,18 @@ module _ {R A : Type 0} (f : R → List A) where
   joined_more (r ∷ rs) zero = append-nil (f r)
   joined_more (r ∷ rs) (suc i) = ap (λ xs. f r ++ xs) (joined_more rs i) ∙ sym (append_assoc (f r) (flat_map f (take i rs)) (image_at f (slice_get rs i)))
 
-  pub adds_entry : (rs : List R) (i : ℕ) (l l' l'' : Entries A) → Adds l l' (flat_map f (take i rs)) → Adds l' l'' (image_at f (slice_get rs i)) → Adds l l'' (flat_map f (take (i + 1) rs))
-  adds_entry rs i l l' l'' p q =
-      subst (Adds l l'') (sym (joined_more rs i) ∙ ap (λ k. flat_map f (take k rs)) (sym (add-one i))) (adds_more l l' l'' (flat_map f (take i rs)) (image_at f (slice_get rs i)) p q)
+  -- one record more, which is the next
+  pub adds_next : (rs : List R) (i : ℕ) (r : R) (l l' l'' : Entries A) → slice_get rs i ≡ Some r
+      → Adds l l' (flat_map f (take i rs)) → Adds l' l'' (f r) → Adds l l'' (flat_map f (take (i + 1) rs))
+  adds_next rs i r l l' l'' e p q =
+      let t : flat_map f (take i rs) ++ f r ≡ flat_map f (take (i + 1) rs) =
+      sym (ap (λ k. flat_map f (take k rs)) (add-one i) ∙ joined_more rs i ∙ ap (λ x. flat_map f (take i rs) ++ image_at f x) e) in
+      subst (Adds l l'') t (adds_more l l' l'' (flat_map f (take i rs)) (f r) p q)
+
+  -- the same where the next is told as the item of a loop
+  pub adds_item : (rs : List R) (i : ℕ) (r : R) (l l' l'' : Entries A) → i < length rs → r ≡ get_or rs i r
+      → Adds l l' (flat_map f (take i rs)) → Adds l' l'' (f r) → Adds l l'' (flat_map f (take (i + 1) rs))
+  adds_item rs i r l l' l'' h e p q = adds_next rs i r l l' l'' (slice_get-get_or rs i r h ∙ ap Some (sym e)) p q
 
   -- parts of one length
   pub length_joined : (w : ℕ) → ((r : R) → length (f r) ≡ w) → (rs : List R) → length (flat_map f rs) ≡ length rs * w

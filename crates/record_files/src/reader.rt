@@ -2,7 +2,7 @@ ghost use Rattle.std.specs.Prelude.{◌≡◌, ◌/◌, ◌&&◌, length, Ok};
 ghost use Rattle.outcome.specs.Outcome.{kept, then};
 ghost use Rattle.record_files.specs.File.{pieces, all_taken, accepted, ordered_records, take_up_of};
 ghost use Rattle.records.specs.Order.{follows};
-ghost use Rattle.logs.specs.Log.{held, Adds};
+ghost use Rattle.logs.specs.Log.{held, Extends};
 
 use logs::log::Log;
 use records::record::Record;
@@ -23,11 +23,11 @@ fn still_in_order<R: Record>(ordered: bool, before: Option<R>, record: &R) -> bo
 
 // Refuses a piece that is no record, and records that are not in order.
 fn check_pieces<R: Record>(file: &[u8]) -> Result<(), Refusal>
-    ensures { result ≡ then (then (all_taken R.Record.taken (pieces R.Record.width (length file.now / R.Record.width) file.now)) (ordered_records R.Record.ordered)) (λ _. Ok tt) }
+    ensures { result ≡ then (then (all_taken R.Record.taken (pieces R.Record.WIDTH (length file.now / R.Record.WIDTH) file.now)) (ordered_records R.Record.ordered)) (λ _. Ok tt) }
 {
     let mut before: Option<R> = None;
     let mut ordered = true;
-    for piece in file.chunks_exact(R::size()) {
+    for piece in file.chunks_exact(R::WIDTH) {
         let record = R::take(piece)?;
         ordered = still_in_order(ordered, before, &record);
         before = Some(record);
@@ -41,34 +41,26 @@ fn check_pieces<R: Record>(file: &[u8]) -> Result<(), Refusal>
 
 // Enters the record that a piece is, if it is one.
 fn enter_piece<R: Record>(piece: &[u8], log: &mut Log<'_, R>)
-    ensures adds { Adds (held log.old) (held log.new) (accepted (R.Record.taken piece.now)) }
-    ensures lent { log.new.places.ghost_name ≡ log.old.places.ghost_name }
+    ensures { Extends log.old log.new (accepted (R.Record.taken piece.now)) }
 {
-    match R::take(piece) {
-        Ok(record) => {
-            let _ = log.append(record);
-        }
-        Err(_) => {}
+    if let Ok(record) = R::take(piece) {
+        let _ = log.append(record);
     }
 }
 
 // Takes the records of a file up into a log.
 pub fn take_up<R: Record>(file: &[u8], log: &mut Log<'_, R>) -> Result<(), Refusal>
-    ensures value { (result, held log.new) ≡ kept (held log.old) (take_up_of R.Record.width R.Record.taken R.Record.ordered file.now (held log.old)) }
+    ensures value { (result, held log.new) ≡ kept (held log.old) (take_up_of R.Record.WIDTH R.Record.taken R.Record.ordered file.now (held log.old)) }
     ensures lent { log.new.places.ghost_name ≡ log.old.places.ghost_name }
 {
-    let width = R::size();
-    if file.len() % width != 0 {
-        return Err(Refusal::FileLength);
-    }
-    if file.len() > LONGEST_FILE {
+    if file.len() % R::WIDTH != 0 || file.len() > LONGEST_FILE {
         return Err(Refusal::FileLength);
     }
     check_pieces::<R>(file)?;
-    if log.room() < file.len() / width {
+    if log.room() < file.len() / R::WIDTH {
         return Err(Refusal::TooLittleRoom);
     }
-    for piece in file.chunks_exact(width) {
+    for piece in file.chunks_exact(R::WIDTH) {
         enter_piece(piece, log);
     }
     Ok(())

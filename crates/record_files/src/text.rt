@@ -1,15 +1,13 @@
 ghost use Rattle.std.specs.Prelude.{◌≡◌, ◌/◌, ◌%◌, ◌≤◌, [], length};
-ghost use Rattle.std.specs.List.{slice_get, flat_map};
+ghost use Rattle.std.specs.List.{flat_map};
 ghost use Rattle.outcome.specs.Outcome.{kept};
-ghost use Rattle.record_files.specs.File.{image_at};
-ghost use Rattle.logs.specs.Log.{held, Adds};
+ghost use Rattle.logs.specs.Log.{held, Extends};
 ghost use Rattle.record_files.specs.Text.{digit_of, hex_byte, record_line, stop_line, text_of, printed, file_text, pins_text};
 
 use crate::reader::take_up;
 use crate::writer::image_of;
 use logs::log::Log;
 use records::pins::PinRecord;
-use records::ports::Port;
 use records::record::Record;
 use records::refusals::Refusal;
 
@@ -31,62 +29,45 @@ fn digit(n: u8) -> u8
 
 // Writes two digits for each byte.
 fn write_hex(bytes: &[u8], text: &mut Log<'_, u8>)
-    ensures adds { Adds (held text.old) (held text.new) (flat_map hex_byte bytes.now) }
-    ensures lent { text.new.places.ghost_name ≡ text.old.places.ghost_name }
+    ensures { Extends text.old text.new (flat_map hex_byte bytes.now) }
 {
     for b in bytes {
         let _ = text.extend(&[digit(*b / 16), digit(*b)]);
     }
 }
 
-// Writes the line of one entry.
-fn write_line<R: Record>(log: &Log<'_, R>, i: usize, text: &mut Log<'_, u8>)
-    ensures adds { Adds (held text.old) (held text.new) (image_at (record_line R.Record.image) (slice_get (held log.now).made i)) }
-    ensures lent { text.new.places.ghost_name ≡ text.old.places.ghost_name }
+// Writes the line of one record.
+fn write_line<R: Record>(record: &R, text: &mut Log<'_, u8>)
+    ensures { Extends text.old text.new (record_line R.Record.image «record».now) }
 {
-    match log.entry(i) {
-        Some(record) => {
-            let image = image_of(&record);
-            write_hex(&image[0..R::size()], text);
-            let _ = text.extend(&[b'\n']);
-        }
-        None => {}
-    }
-}
-
-// Writes the lines of all entries.
-fn write_lines<R: Record>(log: &Log<'_, R>, text: &mut Log<'_, u8>)
-    ensures adds { Adds (held text.old) (held text.new) (flat_map (record_line R.Record.image) (held log.now).made) }
-    ensures lent { text.new.places.ghost_name ≡ text.old.places.ghost_name }
-{
-    let n = log.len();
-    for i in 0..n {
-        write_line(log, i, text);
-    }
+    let image = image_of(record);
+    write_hex(&image[0..R::WIDTH], text);
+    let _ = text.extend(&[b'\n']);
 }
 
 // Writes the last line.
 fn write_stop(stop: u8, text: &mut Log<'_, u8>)
-    ensures adds { Adds (held text.old) (held text.new) (stop_line stop) }
-    ensures lent { text.new.places.ghost_name ≡ text.old.places.ghost_name }
+    ensures { Extends text.old text.new (stop_line stop) }
 {
     let tens = b'0' + stop / 10 % 10;
     let ones = b'0' + stop % 10;
     let _ = text.extend(&[b's', b't', b'o', b'p', b' ', tens, ones, b'\n']);
 }
 
-// Writes a line for each entry of a log and a last line to the front of a memory, and answers the length of the text.
+// Writes a line for each record of a log and a last line to the front of a memory, and answers the length of the text.
 pub fn write_text<R: Record>(log: &Log<'_, R>, stop: u8, out: &mut [u8]) -> Result<usize, Refusal>
     ensures { (result, out.new) ≡ kept out.old (printed (text_of R.Record.image (held log.now).made stop) out.old) }
 {
     if out.len() < STOP_LINE {
         return Err(Refusal::TooLittleRoom);
     }
-    if (out.len() - STOP_LINE) / (2 * R::size() + 1) < log.len() {
+    if (out.len() - STOP_LINE) / (2 * R::WIDTH + 1) < log.len() {
         return Err(Refusal::TooLittleRoom);
     }
     let mut text = Log::new(out);
-    write_lines(log, &mut text);
+    for record in log.records() {
+        write_line(record, &mut text);
+    }
     write_stop(stop, &mut text);
     Ok(text.len())
 }
@@ -102,7 +83,7 @@ fn write_file_text(
 {
     match take_up(file, pins) {
         Ok(()) => write_text(pins, 0, out),
-        Err(refusal) => write_text(pins, refusal.number(), out),
+        Err(refusal) => write_text(pins, u8::from(refusal), out),
     }
 }
 
@@ -110,11 +91,7 @@ fn write_file_text(
 pub fn write_pins_text(file: &[u8], out: &mut [u8]) -> Result<usize, Refusal>
     ensures { (result, out.new) ≡ kept out.old (printed (pins_text file.now) out.old) }
 {
-    let mut places = [PinRecord {
-        cycle: 0,
-        port: Port::P0,
-        level: 0,
-    }; PINS];
+    let mut places = [PinRecord::BLANK; PINS];
     let mut pins = Log::new(&mut places);
     let n = file.len().min(PINS_BYTES);
     write_file_text(&file[0..n], &mut pins, out)

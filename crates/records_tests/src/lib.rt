@@ -25,7 +25,7 @@ mod tests {
     fn number(outcome: Result<(), Refusal>) -> u8 {
         match outcome {
             Ok(()) => 0,
-            Err(refusal) => refusal.number(),
+            Err(refusal) => u8::from(refusal),
         }
     }
 
@@ -135,7 +135,7 @@ mod tests {
                 let _ = record.put(&mut back);
                 (0, back == bytes)
             }
-            Err(refusal) => (refusal.number(), false),
+            Err(refusal) => (u8::from(refusal), false),
         }
     }
 

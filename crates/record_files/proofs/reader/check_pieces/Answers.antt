@@ -10,10 +10,10 @@ pub loop-piece-preserved : goal.loop-piece-preserved
 loop-piece-preserved g c =
     let inv = c.loop-piece.invariant in
     let step = c.in-Some.ensures.steps in
-    let n : length c.in-Some.piece.now ≡ g.R.Record.width = step.1.1 ∙ inv.1 in (
+    let n : length c.in-Some.piece.now ≡ g.R.Record.WIDTH = step.1.1 ∙ inv.1 in (
       subst (λ k. 0 < k) (sym step.0) inv.0,
       step.0 ∙ inv.1,
-      inv.2 ∙ judged_piece g.R.Record.ordered g.R.Record.taken g.R.Record.width g.R.Record.wide
+      inv.2 ∙ judged_piece g.R.Record.ordered g.R.Record.taken g.R.Record.WIDTH g.R.Record.wide
           c.loop-piece.ordered c.still_in_order-ordered.result c.loop-piece.before c.in_ok-record.record
           c.in-Some.piece.now (chunks_exact_rest c.next.new.self) (chunks_exact_rest c.loop-piece.piece-iterator)
           n step.1.0 c.in_ok-record.ensures.value c.still_in_order-ordered.ensures,
@@ -23,11 +23,11 @@ pub returns-in_err-record : goal.returns-in_err-record
 returns-in_err-record g c =
     let inv = c.loop-piece.invariant in
     let step = c.in-Some.ensures.steps in
-    let n : length c.in-Some.piece.now ≡ g.R.Record.width = step.1.1 ∙ inv.1 in
+    let n : length c.in-Some.piece.now ≡ g.R.Record.WIDTH = step.1.1 ∙ inv.1 in
     let p = err_from_is_err_and c.from_residual.result c.from_residual.ensures.1 in
-    p.1 ∙ ap Err p.2 ∙ sym (judged_all g.R.Record.ordered (all_taken g.R.Record.taken (all_pieces g.R.Record.width c.args.file.now))
+    p.1 ∙ ap Err p.2 ∙ sym (judged_all g.R.Record.ordered (all_taken g.R.Record.taken (all_pieces g.R.Record.WIDTH c.args.file.now))
     ∙ inv.2
-    ∙ refused_piece g.R.Record.ordered g.R.Record.taken g.R.Record.width g.R.Record.wide c.loop-piece.ordered c.loop-piece.before
+    ∙ refused_piece g.R.Record.ordered g.R.Record.taken g.R.Record.WIDTH g.R.Record.wide c.loop-piece.ordered c.loop-piece.before
     c.in_err-record.field-0.0 c.in-Some.piece.now (chunks_exact_rest c.next.new.self) (chunks_exact_rest c.loop-piece.piece-iterator)
     n step.1.0 c.in_err-record.ensures.value)
 
@@ -35,9 +35,9 @@ pub returns-then-ordered : goal.returns-then-ordered
 returns-then-ordered g c =
     let inv = c.loop-piece.invariant in
     let step = c.in-None.ensures.steps in
-    sym (judged_all g.R.Record.ordered (all_taken g.R.Record.taken (all_pieces g.R.Record.width c.args.file.now))
+    sym (judged_all g.R.Record.ordered (all_taken g.R.Record.taken (all_pieces g.R.Record.WIDTH c.args.file.now))
     ∙ inv.2
-    ∙ judged_end g.R.Record.ordered g.R.Record.taken g.R.Record.width g.R.Record.wide c.loop-piece.ordered c.loop-piece.before
+    ∙ judged_end g.R.Record.ordered g.R.Record.taken g.R.Record.WIDTH g.R.Record.wide c.loop-piece.ordered c.loop-piece.before
     (chunks_exact_rest c.loop-piece.piece-iterator) (subst (λ k. length (chunks_exact_rest c.loop-piece.piece-iterator) < k) inv.1 step.1.0)
     ∙ ap (λ b. cond b (Ok tt) (Err CycleBelowTheOneBefore)) c.if-ordered.true)
 
@@ -45,8 +45,8 @@ pub returns-else-ordered : goal.returns-else-ordered
 returns-else-ordered g c =
     let inv = c.loop-piece.invariant in
     let step = c.in-None.ensures.steps in
-    sym (judged_all g.R.Record.ordered (all_taken g.R.Record.taken (all_pieces g.R.Record.width c.args.file.now))
+    sym (judged_all g.R.Record.ordered (all_taken g.R.Record.taken (all_pieces g.R.Record.WIDTH c.args.file.now))
     ∙ inv.2
-    ∙ judged_end g.R.Record.ordered g.R.Record.taken g.R.Record.width g.R.Record.wide c.loop-piece.ordered c.loop-piece.before
+    ∙ judged_end g.R.Record.ordered g.R.Record.taken g.R.Record.WIDTH g.R.Record.wide c.loop-piece.ordered c.loop-piece.before
     (chunks_exact_rest c.loop-piece.piece-iterator) (subst (λ k. length (chunks_exact_rest c.loop-piece.piece-iterator) < k) inv.1 step.1.0)
     ∙ ap (λ b. cond b (Ok tt) (Err CycleBelowTheOneBefore)) c.if-ordered.false)

@@ -1,19 +1,17 @@
-use Rattle.std.proofs.Common.{[], ◌∷◌, ◌∙◌, subst, rules}
+use Rattle.std.proofs.Common.{[], ◌∷◌, ◌∙◌, rules}
 use Rattle.std.specs.List.{flat_map}
-use Rattle.record_files.specs.File.{image_at}
 use Rattle.logs.specs.Log.{held, Adds}
-use Rattle.record_files.specs.Text.{hex_byte, record_line}
+use Rattle.record_files.specs.Text.{hex_byte}
 use Rattle.logs.proofs.Growth.{adds_more, adds_all}
 use Rattle.record_files.proofs.text.write_line.Goals as goal
 
-pub returns-in-Some : goal.returns-in-Some
-returns-in-Some g c =
-    let image = g.R.Record.image c.in-Some.record in
+pub returns : goal.returns
+returns g c =
+    let image = g.R.Record.image c.args.record.now in
     let hex : Adds (held c.args.text.now) (held c.write_hex.new.text) (flat_map hex_byte image) = search rules in
     let end : Adds (held c.write_hex.new.text) (held c.extend.new.self) (10 ∷ []) =
     adds_all (held c.write_hex.new.text) (held c.extend.new.self) (10 ∷ []) c.extend.result c.extend.ensures.value in
-    let both = adds_more (held c.args.text.now) (held c.write_hex.new.text) (held c.extend.new.self) (flat_map hex_byte image) (10 ∷ []) hex end in
     record {
-      adds = subst (λ o. Adds (held c.args.text.now) (held c.extend.new.self) (image_at (record_line g.R.Record.image) o)) c.in-Some.ensures both;
+      adds = adds_more (held c.args.text.now) (held c.write_hex.new.text) (held c.extend.new.self) (flat_map hex_byte image) (10 ∷ []) hex end;
       lent = c.extend.ensures.lent ∙ c.write_hex.ensures.lent;
     }
