@@ -1,5 +1,7 @@
 -- The meaning of the two buses that stand on lent memory.
-use Rattle.std.specs.Prelude.{ℕ, Bool, false, cond, List, length, Some, None, Option, nat_lt, slice_index}
+use Rattle.std.specs.Prelude.{ℕ, Bool, false, cond, List, length, Some, None, Ok, Err, Option, Result, nat_lt, slice_index, slice_set}
+use Rattle.buses.specs.declared.bus.BusFault.{BusFault}
+use Rattle.buses.specs.declared.bus.BusFault.TheVariants.{NotFitted}
 use Rattle.buses.specs.declared.split.SplitBus.{SplitBus}
 use Rattle.buses.specs.declared.combined.CombinedBus.{CombinedBus}
 use Rattle.buses.specs.Memory.{Memory}
@@ -11,6 +13,10 @@ reaches bytes address = nat_lt address (length bytes)
 -- the byte at an address; past the end there is none
 abbrev pub byte_at : List ℕ → ℕ → Option ℕ
 byte_at bytes address = cond (reaches bytes address) (Some (slice_index bytes address)) None
+
+-- a byte put at an address, and the bytes then; past the end not fitted
+abbrev pub put_of : List ℕ → ℕ → ℕ → Result (Unit {0} × List ℕ) BusFault
+put_of bytes address byte = cond (reaches bytes address) (Ok (tt, slice_set bytes address byte)) (Err NotFitted)
 
 abbrev pub nowhere : ℕ → Bool
 nowhere address = false

@@ -2,7 +2,7 @@ ghost use Rattle.std.specs.Prelude.{◌≡◌};
 ghost use Rattle.outcome.specs.Outcome.{kept};
 ghost use Rattle.buses.specs.Memory.{Memory, Lawful, SameFitting, FittingStands, answer, write_of, exchange_of};
 
-// Why an access is refused.
+// Why an access is refused. It rises by `?` through the layers: a rule of the project.
 #[derive(Clone, Copy, PartialEq, Eq, Debug)]
 pub enum BusFault {
     NotFitted,
@@ -31,6 +31,7 @@ pub trait Bus {
 }
 
 // Writes the data byte at an address and answers the one that was there.
+#[tactic(auto, using(crate::proofs::Fitting::fitting_stands))]
 pub fn exchange<B: Bus>(bus: &mut B, address: u16, byte: u8) -> Result<u8, BusFault>
     ensures exchanged { (result, B.memory bus.new) ≡ kept (B.memory bus.old) (exchange_of (B.memory bus.old) address byte) }
     ensures stands { FittingStands }

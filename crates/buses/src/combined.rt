@@ -4,6 +4,7 @@ ghost use Rattle.buses.specs.Refusals.{meaning_of, combined_of};
 ghost use Rattle.buses.specs.Laws.{combined_lawful};
 
 use crate::bus::{Bus, BusFault};
+use crate::lent::{byte_at, put_byte};
 use crate::refusal::{Refusal, Rejected, has_size};
 
 // One lent memory for code and data.
@@ -38,21 +39,10 @@ impl Bus for CombinedBus<'_> {
     }
 
     fn read(&self, address: u16) -> Result<u8, BusFault> {
-        let at = address as usize;
-        if at < self.bytes.len() {
-            Ok(self.bytes[at])
-        } else {
-            Err(BusFault::NotFitted)
-        }
+        byte_at(self.bytes, address)
     }
 
     fn write(&mut self, address: u16, byte: u8) -> Result<(), BusFault> {
-        let at = address as usize;
-        if at < self.bytes.len() {
-            self.bytes[at] = byte;
-            Ok(())
-        } else {
-            Err(BusFault::NotFitted)
-        }
+        put_byte(self.bytes, address, byte)
     }
 }

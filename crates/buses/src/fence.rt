@@ -43,7 +43,7 @@ impl<B: Bus> Bus for Fence<B> {
     }
 
     fn write(&mut self, address: u16, byte: u8) -> Result<(), BusFault> {
-        if self.first <= address && address <= self.last {
+        if (self.first..=self.last).contains(&address) {
             self.below.read(address)?;
             return Err(BusFault::Fenced);
         }

@@ -4,6 +4,7 @@
 mod bus;
 mod combined;
 mod fence;
+mod lent;
 mod page;
 mod refusal;
 mod shift;

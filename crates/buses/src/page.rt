@@ -35,15 +35,17 @@ impl<B: Bus> Bus for Page<B> {
     }
 
     fn read(&self, address: u16) -> Result<u8, BusFault> {
-        if address / 256 == self.page as u16 {
-            return Ok(self.bytes[(address % 256) as usize]);
+        let [high, low] = address.to_be_bytes();
+        if high == self.page {
+            return Ok(self.bytes[low as usize]);
         }
         Ok(self.below.read(address)?)
     }
 
     fn write(&mut self, address: u16, byte: u8) -> Result<(), BusFault> {
-        if address / 256 == self.page as u16 {
-            self.bytes[(address % 256) as usize] = byte;
+        let [high, low] = address.to_be_bytes();
+        if high == self.page {
+            self.bytes[low as usize] = byte;
             return Ok(());
         }
         self.below.write(address, byte)?;

@@ -10,12 +10,12 @@ pub enum Refusal {
     FirstAboveLast,
 }
 
-impl Refusal {
-    // The number of a refusal.
-    pub fn number(self) -> u8
-        ensures { result ≡ number_of self }
-    {
-        match self {
+// The number of a refusal.
+impl From<Refusal> for u8 {
+    ghost from_gives = { λ r n. n ≡ number_of r };
+
+    fn from(refusal: Refusal) -> u8 {
+        match refusal {
             Refusal::MemorySize => 1,
             Refusal::FirstAboveLast => 2,
         }
@@ -33,5 +33,5 @@ pub struct Rejected<T> {
 pub(crate) fn has_size(bytes: &[u8]) -> bool
     ensures { result ≡ has_size bytes.now }
 {
-    0 < bytes.len() && bytes.len() <= 65536
+    (1..=65536).contains(&bytes.len())
 }

@@ -4,6 +4,7 @@ ghost use Rattle.buses.specs.Refusals.{meaning_of, split_of};
 ghost use Rattle.buses.specs.Laws.{split_lawful};
 
 use crate::bus::{Bus, BusFault};
+use crate::lent::{byte_at, put_byte};
 use crate::refusal::{Refusal, Rejected, has_size};
 
 // One lent memory for code and one for data.
@@ -35,30 +36,14 @@ impl Bus for SplitBus<'_> {
     ghost lawful = { λ s. split_lawful s.code.now s.«data».now };
 
     fn code(&self, address: u16) -> Result<u8, BusFault> {
-        let at = address as usize;
-        if at < self.code.len() {
-            Ok(self.code[at])
-        } else {
-            Err(BusFault::NotFitted)
-        }
+        byte_at(self.code, address)
     }
 
     fn read(&self, address: u16) -> Result<u8, BusFault> {
-        let at = address as usize;
-        if at < self.data.len() {
-            Ok(self.data[at])
-        } else {
-            Err(BusFault::NotFitted)
-        }
+        byte_at(self.data, address)
     }
 
     fn write(&mut self, address: u16, byte: u8) -> Result<(), BusFault> {
-        let at = address as usize;
-        if at < self.data.len() {
-            self.data[at] = byte;
-            Ok(())
-        } else {
-            Err(BusFault::NotFitted)
-        }
+        put_byte(self.data, address, byte)
     }
 }

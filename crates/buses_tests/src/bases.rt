@@ -1,7 +1,7 @@
 use crate::access::Access::*;
 use crate::access::try_all;
 use buses::BusFault::*;
-use buses::{CombinedBus, SplitBus};
+use buses::{CombinedBus, Rejected, SplitBus};
 use std::test::Fail;
 
 #[test]
@@ -76,19 +76,11 @@ fn last_address() -> Result<(), Fail> {
     )
 }
 
-// The number with which a split bus is refused, and 0 where it is built.
-fn split_number<'a>(code: &'a [u8], data: &'a mut [u8]) -> u8 {
-    match SplitBus::new(code, data) {
+// The number with which a builder refuses, and 0 where it builds.
+fn number<S: Drop, T: Drop>(built: Result<S, Rejected<T>>) -> u8 {
+    match built {
         Ok(_) => 0,
-        Err(rejected) => rejected.refusal.number(),
-    }
-}
-
-// The number with which a combined bus is refused, and 0 where it is built.
-fn combined_number(bytes: &mut [u8]) -> u8 {
-    match CombinedBus::new(bytes) {
-        Ok(_) => 0,
-        Err(rejected) => rejected.refusal.number(),
+        Err(rejected) => u8::from(rejected.refusal),
     }
 }
 
@@ -98,20 +90,20 @@ fn split_sizes(rt: HostRuntime) {
     let mut one = [5];
     let mut most = [0; 65536];
     let mut above = [0; 65537];
-    assert_eq!(rt; split_number(&none, &mut one), 1);
-    assert_eq!(rt; split_number(&one, &mut none), 1);
-    assert_eq!(rt; split_number(&above, &mut most), 1);
-    assert_eq!(rt; split_number(&most, &mut above), 1);
-    assert_eq!(rt; split_number(&most, &mut one), 0);
-    assert_eq!(rt; split_number(&one, &mut most), 0);
+    assert_eq!(rt; number(SplitBus::new(&none, &mut one)), 1);
+    assert_eq!(rt; number(SplitBus::new(&one, &mut none)), 1);
+    assert_eq!(rt; number(SplitBus::new(&above, &mut most)), 1);
+    assert_eq!(rt; number(SplitBus::new(&most, &mut above)), 1);
+    assert_eq!(rt; number(SplitBus::new(&most, &mut one)), 0);
+    assert_eq!(rt; number(SplitBus::new(&one, &mut most)), 0);
 }
 
 #[test]
 fn combined_sizes(rt: HostRuntime) {
-    assert_eq!(rt; combined_number(&mut []), 1);
-    assert_eq!(rt; combined_number(&mut [5]), 0);
-    assert_eq!(rt; combined_number(&mut [0; 65536]), 0);
-    assert_eq!(rt; combined_number(&mut [0; 65537]), 1);
+    assert_eq!(rt; number(CombinedBus::new(&mut [])), 1);
+    assert_eq!(rt; number(CombinedBus::new(&mut [5])), 0);
+    assert_eq!(rt; number(CombinedBus::new(&mut [0; 65536])), 0);
+    assert_eq!(rt; number(CombinedBus::new(&mut [0; 65537])), 1);
 }
 
 // A refused builder gives the memory back as it was.

@@ -93,7 +93,7 @@ fn fence_refused(rt: HostRuntime) -> Result<(), Fail> {
     let Err(rejected) = Fence::new(bus, 2, 1) else {
         return Err(Fail::new("built"));
     };
-    assert_eq!(rt; rejected.refusal.number(), 2);
+    assert_eq!(rt; u8::from(rejected.refusal), 2);
     let mut below = rejected.given;
     try_all(&mut below, &[Write(1, 9, Ok(())), Code(1, Ok(9))])
 }
