@@ -1,6 +1,7 @@
 -- A rule of small numbers, proved at all of them by one test that is computed.
-use Rattle.std.proofs.Common.{◌≡◌, ℕ, zero, suc, ◌<◌, Bool, true, false, T, eqb, sym, refl, subst, inl, inr, not-suc-le-zero, arith, eqb→eq}
+use Rattle.std.proofs.Common.{◌≡◌, ℕ, zero, suc, ◌+◌, ◌*◌, ◌/◌, ◌%◌, ◌^◌, ◌<◌, Bool, true, false, T, eqb, sym, refl, subst, inl, inr, not-suc-le-zero, arith, eqb→eq}
 use Rattle.std.proofs.lemmas.Bool.{cases_eq}
+use lib.Bits.{bit_or}
 
 abbrev pub both : Bool → Bool → Bool
 both true b = b
@@ -56,3 +57,13 @@ same_eq true true t = refl
 same_eq true false t = absurd t
 same_eq false true t = absurd t
 same_eq false false t = refl
+
+-- a rotate of a byte by i places, as the library computes it and as the sum of its two parts
+pub rotated_left : (a : ℕ) → a < 256 → bit_or ((a * 2 ^ 1) % 256) (a / 2 ^ 7) ≡ (2 * a) % 256 + a / 128
+rotated_left = agree (λ a. bit_or ((a * 2 ^ 1) % 256) (a / 2 ^ 7)) (λ a. (2 * a) % 256 + a / 128) 256 tt
+
+pub rotated_right : (a : ℕ) → a < 256 → bit_or (a / 2 ^ 1) ((a * 2 ^ 7) % 256) ≡ a / 2 + 128 * (a % 2)
+rotated_right = agree (λ a. bit_or (a / 2 ^ 1) ((a * 2 ^ 7) % 256)) (λ a. a / 2 + 128 * (a % 2)) 256 tt
+
+pub swapped : (a : ℕ) → a < 256 → bit_or ((a * 2 ^ 4) % 256) (a / 2 ^ 4) ≡ 16 * (a % 16) + a / 16
+swapped = agree (λ a. bit_or ((a * 2 ^ 4) % 256) (a / 2 ^ 4)) (λ a. 16 * (a % 16) + a / 16) 256 tt

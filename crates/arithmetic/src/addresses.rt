@@ -6,7 +6,7 @@ ghost use Rattle.arithmetic.specs.Addresses.{word_of, relative_of, absolute_of, 
 pub fn word(high: u8, low: u8) -> u16
     ensures { result ≡ word_of high low }
 {
-    high as u16 * 256 + low as u16
+    u16::from_be_bytes([high, low])
 }
 
 // The target of a relative jump, from the next instruction: 0 to 127 forward, or 128 to 1 back.

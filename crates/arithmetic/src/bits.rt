@@ -27,6 +27,7 @@ pub fn bit(a: u8, i: u8) -> bool
 }
 
 // A byte with bit i, counted modulo 8, put to a value.
+#[tactic(auto, using(crate::proofs::Masks::set_by_mask, crate::proofs::Masks::cleared_by_mask))]
 pub fn with_bit(a: u8, i: u8, value: bool) -> u8
     ensures { result ≡ with_bit_of a i value }
 {

@@ -5,17 +5,19 @@ ghost use Rattle.arithmetic.specs.Shifts.{rotate_left_of, rotate_right_of, carry
 use crate::sums::flags;
 
 // Each bit one place up, bit 7 to bit 0.
+#[tactic(auto, using(crate::proofs::Bytes::rotated_left))]
 pub fn rotate_left(a: u8) -> u8
     ensures { result ≡ rotate_left_of a }
 {
-    (a << 1) + (a >> 7)
+    a.rotate_left(1)
 }
 
 // Each bit one place down, bit 0 to bit 7.
+#[tactic(auto, using(crate::proofs::Bytes::rotated_right))]
 pub fn rotate_right(a: u8) -> u8
     ensures { result ≡ rotate_right_of a }
 {
-    (a >> 1) + (a << 7)
+    a.rotate_right(1)
 }
 
 // Each bit one place up, the carry to bit 0, bit 7 to the carry.
@@ -36,10 +38,11 @@ pub fn rotate_right_carry(a: u8, carry: bool) -> (u8, u8)
 }
 
 // The two digits of a byte exchanged.
+#[tactic(auto, using(crate::proofs::Bytes::swapped))]
 pub fn swap(a: u8) -> u8
     ensures { result ≡ swap_of a }
 {
-    (a << 4) + (a >> 4)
+    a.rotate_left(4)
 }
 
 // Two bytes with their low digits exchanged.

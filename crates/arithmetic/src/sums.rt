@@ -29,9 +29,9 @@ pub fn subtract(a: u8, source: u8, borrow: bool) -> (u8, u8)
     ensures { result ≡ subtract_of a source borrow }
 {
     let b = source.wrapping_add(borrow as u8);
-    let out = a < b;
+    let (difference, out) = a.overflowing_sub(b);
     (
-        a.wrapping_sub(b),
+        difference,
         flags(out, a % 16 < b % 16, out != (a % 128 < b % 128)),
     )
 }
@@ -41,11 +41,8 @@ pub fn multiply(a: u8, b: u8) -> (u8, u8, u8)
     ensures { result ≡ multiply_of a b }
 {
     let product = a as u16 * b as u16;
-    (
-        (product % 256) as u8,
-        (product / 256) as u8,
-        flags(false, false, product > 0xff),
-    )
+    let [high, low] = product.to_be_bytes();
+    (low, high, flags(false, false, product > 0xff))
 }
 
 // Quotient, remainder, flags; by 0 both bytes stay and overflow is set.
