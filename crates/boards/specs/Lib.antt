@@ -1,4 +1,5 @@
 pub mod Board
+pub mod PortPins
 pub mod Passing
 pub mod Script
 pub mod Loopback

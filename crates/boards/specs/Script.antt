@@ -1,5 +1,5 @@
 -- A board that plays pin records: each gives its port a level from its cycle on.
-use Rattle.std.specs.Prelude.{◌≡◌, ℕ, ◌+◌, min, Bool, cond, List, [], ◌∷◌, None, Ok, Err, Result, ◌==◌, nat_le}
+use Rattle.std.specs.Prelude.{◌≡◌, ℕ, ◌+◌, min, Bool, false, cond, List, [], ◌∷◌, None, Ok, Err, Result, ◌==◌, nat_le, slice_set}
 use Rattle.records.specs.declared.pins.PinRecord.{PinRecord}
 use Rattle.records.specs.declared.refusals.Refusal.{Refusal}
 use Rattle.records.specs.declared.refusals.Refusal.TheVariants.{CycleBelowTheOneBefore}
@@ -26,6 +26,26 @@ last_levels rs = last_level 0 rs 255 ∷ last_level 1 rs 255 ∷ last_level 2 rs
 -- the levels after n ticks: of each port, that of the last record whose cycle is at most n
 abbrev pub levels_at : List PinRecord → ℕ → List ℕ
 levels_at rs n = last_levels (in_force n rs)
+
+-- whether the first of the records has fallen due after n ticks
+abbrev pub first_is_due : ℕ → List PinRecord → Bool
+first_is_due n [] = false
+first_is_due n (r ∷ rs) = nat_le r.cycle n
+
+-- the records up to the first that is not due after n ticks
+abbrev pub due_before : ℕ → List PinRecord → List PinRecord
+due_before n [] = []
+due_before n (r ∷ rs) = cond (nat_le r.cycle n) (r ∷ due_before n rs) []
+
+-- the records from the first on that is not due after n ticks
+abbrev pub due_after : ℕ → List PinRecord → List PinRecord
+due_after n [] = []
+due_after n (r ∷ rs) = cond (nat_le r.cycle n) (due_after n rs) (r ∷ rs)
+
+-- levels, with those of the records put in turn
+abbrev pub put_levels : List ℕ → List PinRecord → List ℕ
+put_levels levels [] = levels
+put_levels levels (r ∷ rs) = put_levels (slice_set levels (port_number r.port) r.level) rs
 
 -- the state of its own: the records, and how many ticks have passed
 pub record Playback : Type 0 where

@@ -5,6 +5,7 @@ pub mod any_board;
 pub mod board;
 pub mod loopback;
 mod playback;
+pub mod port_pins;
 pub mod script;
 #[cfg(test)]
 mod tests;

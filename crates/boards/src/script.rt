@@ -1,10 +1,11 @@
-ghost use Rattle.std.specs.Prelude.{◌≡◌, true, false, [], take, refl};
+ghost use Rattle.std.specs.Prelude.{◌≡◌, [], refl};
 ghost use Rattle.outcome.specs.Outcome.{kept};
-ghost use Rattle.boards.specs.Script.{Playback, Plays, in_force, last_levels, levels_at, cycles_in_order, script_start, load_of, script_next};
+ghost use Rattle.boards.specs.Script.{Playback, Plays, first_is_due, due_before, due_after, put_levels, cycles_in_order, script_start, load_of, script_next};
 ghost use Rattle.boards.specs.Played.{played_by};
 
 use crate::board::Board;
 pub use crate::playback::Script;
+use crate::port_pins::PortPins;
 use records::pins::PinRecord;
 use records::refusals::Refusal;
 
@@ -16,9 +17,8 @@ impl<'a> Script<'a> {
         Script {
             records: &[],
             ticks: 0,
-            due: 0,
-            levels: [0xFF; 4],
-            driven: [0xFF; 4],
+            rest: &[],
+            pins: PortPins::new(),
         }
     }
 
@@ -30,12 +30,12 @@ impl<'a> Script<'a> {
         if !in_order(records) {
             return Err(Refusal::CycleBelowTheOneBefore);
         }
-        let Cursor { due, levels } = advance(records, 0, 0, [0xFF; 4]);
+        let PortPins { levels, driven } = PortPins::new();
+        let Cursor { rest, levels } = advance(records, 0, levels);
         self.records = records;
         self.ticks = 0;
-        self.due = due;
-        self.levels = levels;
-        self.driven = [0xFF; 4];
+        self.rest = rest;
+        self.pins = PortPins { levels, driven };
         Ok(())
     }
 }
@@ -50,76 +50,56 @@ impl Board for Script<'_> {
     ghost keeps = { λ b. refl };
 
     fn level(&self, port: u8) -> u8 {
-        if port < 4 {
-            self.levels[port as usize]
-        } else {
-            0xFF
-        }
+        self.pins.level(port)
     }
 
     fn drive(&mut self, port: u8, byte: u8) {
-        if port < 4 {
-            self.driven[port as usize] = byte;
-        }
+        self.pins.drive(port, byte);
     }
 
     fn tick(&mut self) {
         let ticks = self.ticks.saturating_add(1);
-        if is_due(self.records, self.due, ticks) {
-            let Cursor { due, levels } = advance(self.records, ticks, self.due, self.levels);
-            self.due = due;
-            self.levels = levels;
+        if is_due(self.rest, ticks) {
+            let Cursor { rest, levels } = advance(self.rest, ticks, self.pins.levels);
+            self.rest = rest;
+            self.pins.levels = levels;
         }
         self.ticks = ticks;
     }
 }
 
-// Whether the first record that is not yet in force has fallen due. If not, all that are due are in force.
-fn is_due(records: &[PinRecord], first: usize, ticks: u32) -> bool
-    requires ordered { cycles_in_order records.now ≡ true }
-    requires passed { in_force ticks (take first records.now) ≡ take first records.now }
-    ensures { result ≡ false → take first records.now ≡ in_force ticks records.now }
+// Whether the first of the records has fallen due.
+fn is_due(records: &[PinRecord], ticks: u32) -> bool
+    ensures { result ≡ first_is_due ticks records.now }
 {
-    if first >= records.len() {
-        return false;
-    }
-    records[first].cycle <= ticks
+    matches!(records, [record, ..] if record.cycle <= ticks)
 }
 
-// How far the records have come into force, and the levels that they give.
-struct Cursor {
-    due: usize,
+// The records that have not come into force, and the levels that those before them give.
+struct Cursor<'a> {
+    rest: &'a [PinRecord],
     levels: [u8; 4],
 }
 
-// Puts the records into force that have fallen due, from the first that was not yet.
-fn advance(records: &[PinRecord], ticks: u32, first: usize, before: [u8; 4]) -> Cursor
-    requires ordered { cycles_in_order records.now ≡ true }
-    requires passed { in_force ticks (take first records.now) ≡ take first records.now }
-    requires current { before ≡ last_levels (take first records.now) }
-    ensures passed { take result.due records.now ≡ in_force ticks records.now }
-    ensures current { result.levels ≡ levels_at records.now ticks }
+// Puts the records into force that have fallen due, up to the first that has not.
+fn advance<'a>(records: &'a [PinRecord], ticks: u32, before: [u8; 4]) -> Cursor<'a>
+    ensures rest { result.rest.now ≡ due_after ticks records.now }
+    ensures levels { result.levels ≡ put_levels before (due_before ticks records.now) }
 {
-    let mut due = first;
+    let mut rest = records;
     let mut levels = before;
-    while due < records.len() && records[due].cycle <= ticks {
-        let record = records[due];
-        levels[record.port.number() as usize] = record.level;
-        due += 1;
+    while let [record, more @ ..] = rest
+        && record.cycle <= ticks
+    {
+        levels[u8::from(record.port) as usize] = record.level;
+        rest = more;
     }
-    Cursor { due, levels }
+    Cursor { rest, levels }
 }
 
 // Whether no cycle is below the one before.
 fn in_order(records: &[PinRecord]) -> bool
     ensures { result ≡ cycles_in_order records.now }
 {
-    let mut before = 0;
-    for record in records {
-        if record.cycle < before {
-            return false;
-        }
-        before = record.cycle;
-    }
-    true
+    records.is_sorted_by_key(|record| record.cycle)
 }

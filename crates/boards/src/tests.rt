@@ -1,4 +1,5 @@
 use crate::board::Board;
+use crate::port_pins::PortPins;
 use crate::script::Script;
 use records::pins::PinRecord;
 use records::ports::Port;
@@ -14,9 +15,8 @@ fn the_last_cycle(rt: HostRuntime) {
     let mut board = Script {
         records: &records,
         ticks: 0xFFFF_FFFE,
-        due: 0,
-        levels: [0xFF; 4],
-        driven: [0xFF; 4],
+        rest: &records,
+        pins: PortPins::new(),
     };
     assert_eq!(rt; board.level(2), 0xFF);
     board.tick();

@@ -4,29 +4,23 @@ use boards::loopback::Loopback;
 use boards::script::Script;
 use std::test::Fail;
 
-fn same_levels(shown: [u8; 4], expected: [u8; 4]) -> Result<(), Fail> {
+// Whether a board shows what is expected.
+fn same<T: PartialEq + Drop>(shown: T, expected: T) -> Result<(), Fail> {
     if shown != expected {
-        return Err(Fail::new("other levels than expected"));
-    }
-    Ok(())
-}
-
-fn same_level(shown: u8, expected: u8) -> Result<(), Fail> {
-    if shown != expected {
-        return Err(Fail::new("another level than expected"));
+        return Err(Fail::new("something else than expected"));
     }
     Ok(())
 }
 
 // A new board shows FFH everywhere, and port numbers above 3 are no ports.
 fn new_board<D: Board>(board: &mut D) -> Result<(), Fail> {
-    same_levels(levels(board), [0xFF; 4])?;
+    same(levels(board), [0xFF; 4])?;
     board.drive(4, 0x12);
     board.drive(255, 0x34);
     pass(board, 2);
-    same_levels(levels(board), [0xFF; 4])?;
-    same_level(board.level(4), 0xFF)?;
-    same_level(board.level(255), 0xFF)
+    same(levels(board), [0xFF; 4])?;
+    same(board.level(4), 0xFF)?;
+    same(board.level(255), 0xFF)
 }
 
 // A drive alone changes no level.
@@ -36,7 +30,7 @@ fn drives_only<D: Board>(board: &mut D) -> Result<(), Fail> {
     board.drive(1, 0x02);
     board.drive(2, 0x03);
     board.drive(3, 0x04);
-    same_levels(levels(board), before)
+    same(levels(board), before)
 }
 
 #[test]

@@ -102,7 +102,7 @@ fn out_of_order(rt: HostRuntime) -> Result<(), Fail> {
     pass(&mut board, 2);
     match board.load(&second) {
         Ok(()) => return Err(Fail::new("accepted")),
-        Err(refusal) => assert_eq!(rt; refusal.number(), 5),
+        Err(refusal) => assert_eq!(rt; u8::from(refusal), 5),
     }
     assert_eq!(rt; levels(&board), [0xFF, 0xFF, 0x21, 0xFF]);
     pass(&mut board, 1);

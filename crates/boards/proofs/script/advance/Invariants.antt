@@ -1,11 +1,12 @@
-use Rattle.std.proofs.Common.{◌≡◌, ◌-◌, length, take}
-use Rattle.boards.specs.Script.{in_force, last_levels}
+use Rattle.std.proofs.Common.{◌≡◌, length}
+use Rattle.boards.specs.Script.{due_before, due_after, put_levels}
 use Rattle.boards.proofs.script.advance.Given as goal
 
-abbrev pub invariant-loop-due : goal.invariant-loop-due
-invariant-loop-due l =
-    (in_force l.ticks (take l.due l.records) ≡ take l.due l.records) ×
-    (l.levels ≡ last_levels (take l.due l.records))
+-- what is due of the rest leads to what is due of all
+abbrev pub invariant-loop-rest : goal.invariant-loop-rest
+invariant-loop-rest l =
+    (due_after l.ticks l.rest ≡ due_after l.ticks l.records) ×
+    (put_levels l.levels (due_before l.ticks l.rest) ≡ put_levels l.fn.before (due_before l.ticks l.records))
 
-abbrev pub decreases-loop-due : goal.decreases-loop-due
-decreases-loop-due l = length l.records - l.due
+abbrev pub decreases-loop-rest : goal.decreases-loop-rest
+decreases-loop-rest l = length l.rest
