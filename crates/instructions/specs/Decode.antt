@@ -25,6 +25,13 @@ operand_of low first =
 abbrev pub source_of : ℕ → ℕ → Source
 source_of low first = cond (low == 4) (Immediate first) (Named (operand_of low first))
 
+-- target and source of ORL, ANL and XRL, in columns 2 to F of their rows
+abbrev pub logical_operands : ℕ → ℕ → ℕ → Operand × Source
+logical_operands low first second =
+    cond (low == 2) (Direct first, Named Accumulator)
+    (cond (low == 3) (Direct first, Immediate second)
+    (Accumulator, source_of low first))
+
 -- an entry of a row: the columns 0 to 3, and one answer for the rest
 abbrev pub columns : {A : Type 0} → ℕ → (e0 e1 e2 e3 rest : A) → A
 columns low e0 e1 e2 e3 rest =

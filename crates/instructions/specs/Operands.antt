@@ -24,22 +24,22 @@ named_of (Named operand) = Some operand
 named_of (Immediate n) = None
 
 -- it names nothing; it only reads a byte; it writes a byte; it writes one and may read another
-abbrev pub nothing : Operands
+abbrev pub nothing : Operands Operand
 nothing = record { target = None; source = None }
 
-abbrev pub reads : Operand → Operands
+abbrev pub reads : Operand → Operands Operand
 reads operand = record { target = None; source = Some operand }
 
-abbrev pub writes : Operand → Operands
+abbrev pub writes : Operand → Operands Operand
 writes operand = record { target = Some operand; source = None }
 
-abbrev pub moves : Operand → Source → Operands
+abbrev pub moves : Operand → Source → Operands Operand
 moves target source = record { target = Some target; source = named_of source }
 
-abbrev pub takes : Source → Operands
+abbrev pub takes : Source → Operands Operand
 takes source = record { target = None; source = named_of source }
 
-abbrev pub of_arithmetic : ArithmeticGroup → Operands
+abbrev pub of_arithmetic : ArithmeticGroup → Operands Operand
 of_arithmetic (Add s) = takes s
 of_arithmetic (Addc s) = takes s
 of_arithmetic (Subb s) = takes s
@@ -50,7 +50,7 @@ of_arithmetic Mul = nothing
 of_arithmetic Div = nothing
 of_arithmetic Da = nothing
 
-abbrev pub of_logical : LogicalGroup → Operands
+abbrev pub of_logical : LogicalGroup → Operands Operand
 of_logical (Anl t s) = moves t s
 of_logical (Orl t s) = moves t s
 of_logical (Xrl t s) = moves t s
@@ -62,7 +62,7 @@ of_logical Rr = nothing
 of_logical Rrc = nothing
 of_logical Swap = nothing
 
-abbrev pub of_transfer : TransferGroup → Operands
+abbrev pub of_transfer : TransferGroup → Operands Operand
 of_transfer (Mov t s) = moves t s
 of_transfer (MovDptr n) = nothing
 of_transfer MovcDptr = nothing
@@ -74,7 +74,7 @@ of_transfer (Pop a) = writes (Direct a)
 of_transfer (Xch t) = writes t
 of_transfer (Xchd i) = writes (Indirect i)
 
-abbrev pub of_boolean : BooleanGroup → Operands
+abbrev pub of_boolean : BooleanGroup → Operands Operand
 of_boolean ClrC = nothing
 of_boolean (Clr b) = writes (Bit b)
 of_boolean SetbC = nothing
@@ -93,7 +93,7 @@ of_boolean (Jb b r) = reads (Bit b)
 of_boolean (Jnb b r) = reads (Bit b)
 of_boolean (Jbc b r) = writes (Bit b)
 
-abbrev pub of_control : ControlGroup → Operands
+abbrev pub of_control : ControlGroup → Operands Operand
 of_control (Acall n) = nothing
 of_control (Lcall n) = nothing
 of_control Ret = nothing
@@ -109,7 +109,7 @@ of_control (Cjne l (Immediate n) r) = reads l
 of_control (Djnz t r) = writes t
 of_control Nop = nothing
 
-abbrev pub operands_of : Instruction → Operands
+abbrev pub operands_of : Instruction → Operands Operand
 operands_of (Arithmetic i) = of_arithmetic i
 operands_of (Logical i) = of_logical i
 operands_of (Transfer i) = of_transfer i
@@ -125,7 +125,7 @@ is_ie_or_ip (Some (Direct a)) = a == 0xa8 || a == 0xb8
 is_ie_or_ip (Some (Indirect n)) = false
 is_ie_or_ip (Some (Bit b)) = b / 8 == 21 || b / 8 == 23
 
-abbrev pub has_ie_or_ip : Operands → Bool
+abbrev pub has_ie_or_ip : Operands Operand → Bool
 has_ie_or_ip o = is_ie_or_ip o.target || is_ie_or_ip o.source
 
 abbrev pub is_reti_control : ControlGroup → Bool

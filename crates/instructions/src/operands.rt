@@ -9,15 +9,16 @@ const IE: u8 = 0xa8;
 
 const IP: u8 = 0xb8;
 
-// The byte that is written, and the byte that is only read. What has a target always writes it.
+// The byte that is written, and the byte that is only read: as an operand, or as the place that the operand names.
+// What has a target always writes it.
 #[derive(Clone, Copy)]
-pub struct Operands {
-    pub target: Option<Operand>,
-    pub source: Option<Operand>,
+pub struct Operands<T> {
+    pub target: Option<T>,
+    pub source: Option<T>,
 }
 
-impl Operands {
-    fn nothing() -> Operands
+impl Operands<Operand> {
+    fn nothing() -> Operands<Operand>
         ensures { result ≡ nothing }
     {
         Operands {
@@ -26,34 +27,34 @@ impl Operands {
         }
     }
 
-    fn reads(operand: Operand) -> Operands
+    fn reads(operand: Operand) -> Operands<Operand>
         ensures { result ≡ reads operand }
     {
         Operands {
-            target: None,
             source: Some(operand),
+            ..Operands::nothing()
         }
     }
 
-    fn takes(source: Source) -> Operands
+    fn takes(source: Source) -> Operands<Operand>
         ensures { result ≡ takes source }
     {
         Operands {
-            target: None,
             source: source.named(),
+            ..Operands::nothing()
         }
     }
 
-    fn writes(operand: Operand) -> Operands
+    fn writes(operand: Operand) -> Operands<Operand>
         ensures { result ≡ writes operand }
     {
         Operands {
             target: Some(operand),
-            source: None,
+            ..Operands::nothing()
         }
     }
 
-    fn moves(target: Operand, source: Source) -> Operands
+    fn moves(target: Operand, source: Source) -> Operands<Operand>
         ensures { result ≡ moves target source }
     {
         Operands {
@@ -74,8 +75,8 @@ fn is_ie_or_ip(operand: Option<Operand>) -> bool
     ensures { result ≡ is_ie_or_ip operand }
 {
     match operand {
-        Some(Operand::Direct(address)) => address == IE || address == IP,
-        Some(Operand::Bit(bit)) => bit - bit % 8 == IE || bit - bit % 8 == IP,
+        Some(Operand::Direct(address)) => matches!(address, IE | IP),
+        Some(Operand::Bit(bit)) => matches!(bit - bit % 8, IE | IP),
         _ => false,
     }
 }
@@ -94,7 +95,7 @@ impl Source {
 
 impl Instruction {
     // The bytes that it names.
-    pub fn operands(self) -> Operands
+    pub fn operands(self) -> Operands<Operand>
         ensures { result ≡ operands_of self }
     {
         match self {
@@ -109,10 +110,7 @@ impl Instruction {
     pub fn is_reti(self) -> bool
         ensures { result ≡ is_reti_of self }
     {
-        match self {
-            Instruction::Control(Control::Reti) => true,
-            _ => false,
-        }
+        matches!(self, Instruction::Control(Control::Reti))
     }
 
     // Whether its last cycle polls: not after RETI, nor with IE or IP as an operand.
@@ -123,7 +121,7 @@ impl Instruction {
     }
 }
 
-fn of_arithmetic(i: Arithmetic) -> Operands
+fn of_arithmetic(i: Arithmetic) -> Operands<Operand>
     ensures { result ≡ of_arithmetic i }
 {
     match i {
@@ -134,7 +132,7 @@ fn of_arithmetic(i: Arithmetic) -> Operands
     }
 }
 
-fn of_logical(i: Logical) -> Operands
+fn of_logical(i: Logical) -> Operands<Operand>
     ensures { result ≡ of_logical i }
 {
     match i {
@@ -145,7 +143,7 @@ fn of_logical(i: Logical) -> Operands
     }
 }
 
-fn of_transfer(i: Transfer) -> Operands
+fn of_transfer(i: Transfer) -> Operands<Operand>
     ensures { result ≡ of_transfer i }
 {
     match i {
@@ -158,7 +156,7 @@ fn of_transfer(i: Transfer) -> Operands
     }
 }
 
-fn of_boolean(i: Boolean) -> Operands
+fn of_boolean(i: Boolean) -> Operands<Operand>
     ensures { result ≡ of_boolean i }
 {
     match i {
@@ -174,7 +172,7 @@ fn of_boolean(i: Boolean) -> Operands
     }
 }
 
-fn of_control(i: Control) -> Operands
+fn of_control(i: Control) -> Operands<Operand>
     ensures { result ≡ of_control i }
 {
     match i {

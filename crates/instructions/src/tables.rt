@@ -1,10 +1,10 @@
 // Intel's tables: length and machine cycles of each opcode, the register addresses, the vectors of the interrupt sources.
 ghost use Rattle.std.specs.Prelude.{◌≡◌};
-ghost use Rattle.instructions.specs.Tables.{length_of, cycles_of, is_register_of, vector_of};
+ghost use Rattle.instructions.specs.Tables.{entry, length_of, cycles_of, is_register_of, vector_of};
 
 use records::traces::Source;
 
-// By the high and the low digit of the opcode. A5H, which is no instruction, counts as one byte and one cycle.
+// Constant tables, as docs/DECISIONS.md rules: by the high and the low digit of the opcode. A5H, which is no instruction, counts as one byte and one cycle.
 const LENGTHS: [[u8; 16]; 16] = [
     [1, 2, 3, 1, 1, 2, 1, 1, 1, 1, 1, 1, 1, 1, 1, 1],
     [3, 2, 3, 1, 1, 2, 1, 1, 1, 1, 1, 1, 1, 1, 1, 1],
@@ -43,7 +43,7 @@ const CYCLES: [[u8; 16]; 16] = [
     [2, 2, 2, 2, 1, 1, 1, 1, 1, 1, 1, 1, 1, 1, 1, 1],
 ];
 
-// Where the twenty special function registers stand: a row to each eight addresses, from 80H on.
+// Where the twenty special function registers stand, as a constant table too: a row to each eight addresses, from 80H on.
 const REGISTERS: [[bool; 8]; 16] = [
     [true, true, true, true, false, false, false, false], // 80H: P0, SP, DPL, DPH
     [true, true, true, true, true, true, false, false], // 88H: TCON, TMOD, TL0, TL1, TH0, TH1
@@ -73,18 +73,25 @@ pub fn vector(source: Source) -> u16
     VECTORS[source as usize]
 }
 
+// What a table has for an opcode.
+fn entry(table: &[[u8; 16]; 16], opcode: u8) -> u8
+    ensures { result ≡ entry table.now opcode }
+{
+    table[opcode as usize / 16][opcode as usize % 16]
+}
+
 // The bytes of an instruction, by its opcode.
 pub fn length(opcode: u8) -> u8
     ensures { result ≡ length_of opcode }
 {
-    LENGTHS[opcode as usize / 16][opcode as usize % 16]
+    entry(&LENGTHS, opcode)
 }
 
 // The machine cycles of an instruction, by its opcode.
 pub fn cycles(opcode: u8) -> u8
     ensures { result ≡ cycles_of opcode }
 {
-    CYCLES[opcode as usize / 16][opcode as usize % 16]
+    entry(&CYCLES, opcode)
 }
 
 // Whether a register stands at a direct address.

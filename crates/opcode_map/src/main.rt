@@ -7,15 +7,15 @@ mod text;
 use instructions::decode::decode;
 use instructions::tables::{cycles, length};
 use std::io;
-use text::{instruction, operands};
+use text::Assembler;
 
 fn line(rt: &HostRuntime, opcode: u8) -> io::Result<()> {
     let bytes = length(opcode);
     let count = cycles(opcode);
     match decode(opcode, 0x12, 0x34) {
         Some(i) => {
-            let words = instruction(rt.alloc(), i)?;
-            let named = operands(rt.alloc(), i.operands())?;
+            let words = Assembler(i);
+            let named = Assembler(i.operands());
             println!(rt; "{opcode:02X} {bytes} {count} {words}{named}")
         }
         None => println!(rt; "{opcode:02X} - - no instruction"),
