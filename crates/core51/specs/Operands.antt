@@ -7,7 +7,6 @@ use Rattle.instructions.specs.declared.Operand.TheVariants.{Accumulator, Registe
 use Rattle.instructions.specs.declared.operands.Operands.{Operands}
 use Rattle.core51.specs.declared.fault.Fault.{Fault}
 use Rattle.core51.specs.declared.places.Place.{Place}
-use Rattle.core51.specs.declared.operands.Places.{Places}
 use Rattle.core51.specs.declared.state.Registers.{Registers}
 use Rattle.core51.specs.declared.state.Chip.{Chip}
 use Rattle.core51.specs.Places.{place_of, latch_of, pins_of, write_of}
@@ -26,12 +25,16 @@ abbrev pub named_of : Registers → Option Operand → Result (Option Place) Fau
 named_of r None = Ok None
 named_of r (Some o) = then (place_of r o) (λ p. Ok (Some p))
 
+-- the place that is written, and the place that is only read
+abbrev pub Places : Type 0
+Places = Operands Place
+
 -- target and source
 abbrev pub two_places : Option Place → Option Place → Places
 two_places t s = record { target = t; source = s }
 
 -- the places of both operands; an indirect target is looked up last, so that a missing register is told before missing RAM
-abbrev pub places_of : Registers → Operands → Result Places Fault
+abbrev pub places_of : Registers → Operands Operand → Result Places Fault
 places_of r o =
     cond (is_indirect o.target)
     (then (named_of r o.source) (λ s. then (named_of r o.target) (λ t. Ok (two_places t s))))

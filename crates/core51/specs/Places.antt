@@ -1,5 +1,8 @@
 -- The bytes inside the chip that an instruction can name.
 use Rattle.std.specs.Prelude.{ℕ, ◌+◌, ◌*◌, ◌/◌, ◌%◌, cond, ◌||◌, Some, None, Ok, Err, Option, Result, ◌==◌, bit_and, nat_lt, slice_index, slice_index_or, slice_set}
+use Rattle.records.specs.declared.ports.Port.{Port}
+use Rattle.records.specs.declared.ports.Port.TheVariants.{P0, P1, P2, P3}
+use Rattle.records.specs.Port.{port_number}
 use Rattle.boards.specs.Board.{Pins, level_of}
 use Rattle.instructions.specs.Tables.{is_register_of}
 use Rattle.instructions.specs.declared.Operand.{Operand}
@@ -132,17 +135,17 @@ write_of c p byte =
     cond (nat_lt p.at 0x80) (with_registers c (with_ram c.registers (slice_set c.registers.ram p.at byte))) (put_of c p.at byte)
 
 -- the port whose latch a place is
-abbrev pub port_of : Place → Option ℕ
+abbrev pub port_of : Place → Option Port
 port_of p =
-    cond (p.at == 0x80) (Some 0)
-    (cond (p.at == 0x90) (Some 1)
-    (cond (p.at == 0xa0) (Some 2)
-    (cond (p.at == 0xb0) (Some 3)
+    cond (p.at == 0x80) (Some P0)
+    (cond (p.at == 0x90) (Some P1)
+    (cond (p.at == 0xa0) (Some P2)
+    (cond (p.at == 0xb0) (Some P3)
     None)))
 
 -- a pin is 1 where latch and level are
-abbrev pub seen : {S : Type 0} → Pins S → Option ℕ → ℕ → ℕ
-seen levels (Some port) latch = bit_and latch (level_of levels port)
+abbrev pub seen : {S : Type 0} → Pins S → Option Port → ℕ → ℕ
+seen levels (Some port) latch = bit_and latch (level_of levels (port_number port))
 seen levels None byte = byte
 
 -- what a place shows; of a port the pins

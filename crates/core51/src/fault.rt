@@ -1,8 +1,10 @@
 // Why an instruction is refused.
 ghost use Rattle.std.specs.Prelude.{◌≡◌};
-ghost use Rattle.core51.specs.Faults.{number_of};
+ghost use Rattle.core51.specs.Faults.{number_of, fault_of};
 
-#[derive(Clone, Copy)]
+use buses::BusFault;
+
+#[derive(Clone, Copy, PartialEq, Eq, Debug)]
 pub enum Fault {
     // no time is left for a step
     TimeOver,
@@ -20,12 +22,12 @@ pub enum Fault {
     DataFenced,
 }
 
-impl Fault {
-    // The number of a refusal.
-    pub fn number(self) -> u8
-        ensures { result ≡ number_of self }
-    {
-        match self {
+// The number of a refusal.
+impl From<Fault> for u8 {
+    ghost from_gives = { λ fault n. n ≡ number_of fault };
+
+    fn from(fault: Fault) -> u8 {
+        match fault {
             Fault::TimeOver => 10,
             Fault::CodeNotFitted => 11,
             Fault::NoInstruction => 12,
@@ -33,6 +35,18 @@ impl Fault {
             Fault::NoRam => 14,
             Fault::DataNotFitted => 15,
             Fault::DataFenced => 16,
+        }
+    }
+}
+
+// Why an access to external data is refused.
+impl From<BusFault> for Fault {
+    ghost from_gives = { λ refused fault. fault ≡ fault_of refused };
+
+    fn from(refused: BusFault) -> Fault {
+        match refused {
+            BusFault::NotFitted => Fault::DataNotFitted,
+            BusFault::Fenced => Fault::DataFenced,
         }
     }
 }

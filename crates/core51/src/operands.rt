@@ -10,43 +10,33 @@ use instructions::Operand;
 use instructions::operands::Operands;
 
 // The place that is written, and the place that is only read.
-#[derive(Clone, Copy)]
-pub struct Places {
-    pub target: Option<Place>,
-    pub source: Option<Place>,
-}
+pub type Places = Operands<Place>;
 
 fn is_indirect(operand: Option<Operand>) -> bool
     ensures { result ≡ is_indirect operand }
 {
-    match operand {
-        Some(Operand::Indirect(_)) => true,
-        _ => false,
-    }
+    matches!(operand, Some(Operand::Indirect(_)))
 }
 
 impl Registers {
     fn named(&self, operand: Option<Operand>) -> Result<Option<Place>, Fault>
         ensures { result ≡ named_of self.now operand }
     {
-        match operand {
-            Some(operand) => Ok(Some(self.place(operand)?)),
-            None => Ok(None),
-        }
+        operand.map(|operand| self.place(operand)).transpose()
     }
 
     // The places of both operands. An indirect target comes last: a missing register is told before missing RAM.
-    pub fn places(&self, operands: Operands) -> Result<Places, Fault>
+    pub fn places(&self, operands: Operands<Operand>) -> Result<Places, Fault>
         ensures { result ≡ places_of self.now operands }
     {
         if is_indirect(operands.target) {
             let source = self.named(operands.source)?;
             let target = self.named(operands.target)?;
-            Ok(Places { target, source })
+            Ok(Operands { target, source })
         } else {
             let target = self.named(operands.target)?;
             let source = self.named(operands.source)?;
-            Ok(Places { target, source })
+            Ok(Operands { target, source })
         }
     }
 }
@@ -56,29 +46,22 @@ impl Chip {
     pub fn held(&self, place: Option<Place>) -> u8
         ensures { result ≡ held_of self.now place }
     {
-        match place {
-            Some(place) => self.latch(place),
-            None => 0,
-        }
+        place.map_or(0, |place| self.latch(place))
     }
 
     // What a named place shows; of a port the pins.
     pub fn read<D: Board>(&self, place: Option<Place>, board: &D) -> u8
         ensures { result ≡ read_of (D.pins board.now) self.now place }
     {
-        match place {
-            Some(place) => self.pins(place, board),
-            None => 0,
-        }
+        place.map_or(0, |place| self.pins(place, board))
     }
 
     // Puts the byte that an instruction answers into the place that it names.
     pub fn commit(&mut self, place: Option<Place>, byte: Option<u8>)
         ensures { self.new ≡ committed_of self.old place byte }
     {
-        match (place, byte) {
-            (Some(place), Some(byte)) => self.write(place, byte),
-            _ => {}
+        if let (Some(place), Some(byte)) = (place, byte) {
+            self.write(place, byte);
         }
     }
 }

@@ -1,16 +1,19 @@
 // Places: the bytes inside the chip that an instruction can name.
 ghost use Rattle.std.specs.Prelude.{◌≡◌};
-ghost use Rattle.core51.specs.Places.{get_table, get_of, put_table, put_of, latch_of, write_of, port_of, pins_of, direct_of, indirect_of, bit_place_of, register_of, place_of, load_of, store_of};
+ghost use Rattle.core51.specs.Places.{get_of, put_of, latch_of, write_of, port_of, pins_of, direct_of, indirect_of, bit_place_of, register_of, place_of, load_of, store_of};
 
 use crate::fault::Fault;
 use crate::state::{Chip, Registers};
 use boards::board::Board;
 use instructions::Operand;
 use instructions::tables::is_register;
+use records::ports::Port;
 
 const ACC: u8 = 0xe0;
 
 // A byte that is there: below 80H in the RAM, from 80H on a register.
+// An address is data of the emulated program; an enum of the registers would be no plainer, for it would
+// need the rows below twice more, from the address and back.
 #[derive(Clone, Copy)]
 pub struct Place {
     at: u8,
@@ -88,22 +91,25 @@ impl Registers {
 
 impl Place {
     // The port whose latch it is.
-    pub fn port(self) -> Option<u8>
+    pub fn port(self) -> Option<Port>
         ensures { result ≡ port_of self }
     {
         match self.at {
-            0x80 => Some(0),
-            0x90 => Some(1),
-            0xa0 => Some(2),
-            0xb0 => Some(3),
+            0x80 => Some(Port::P0),
+            0x90 => Some(Port::P1),
+            0xa0 => Some(Port::P2),
+            0xb0 => Some(Port::P3),
             _ => None,
         }
     }
 }
 
 impl Chip {
-    fn get_table(&self, address: u8) -> u8
-        ensures { result ≡ get_table self.now address }
+    // The register at an address from 80H on; a port's latch.
+    // Read and write stay two matches, as the library's get and get_mut: one takes &self, the other &mut self.
+    #[tactic(auto, unfolding(crate::specs::Places::get_of))]
+    fn get(&self, address: u8) -> u8
+        ensures { result ≡ get_of self.now address }
     {
         match address {
             0x80 => self.registers.latches[0],
@@ -130,8 +136,9 @@ impl Chip {
         }
     }
 
-    fn put_table(&mut self, address: u8, byte: u8)
-        ensures { self.new ≡ put_table self.old address byte }
+    #[tactic(auto, unfolding(crate::specs::Places::put_of))]
+    fn put(&mut self, address: u8, byte: u8)
+        ensures { self.new ≡ put_of self.old address byte }
     {
         match address {
             0x80 => self.registers.latches[0] = byte,
@@ -158,20 +165,8 @@ impl Chip {
         }
     }
 
-    // The register at an address from 80H on; a port's latch.
-    fn get(&self, address: u8) -> u8
-        ensures { result ≡ get_of self.now address }
-    {
-        self.get_table(address)
-    }
-
-    fn put(&mut self, address: u8, byte: u8)
-        ensures { self.new ≡ put_of self.old address byte }
-    {
-        self.put_table(address, byte)
-    }
-
     // What a place holds; of a port the latch.
+    #[tactic(auto, unfolding(crate::specs::Places::latch_of))]
     pub(crate) fn latch(&self, place: Place) -> u8
         ensures { result ≡ latch_of self.now place }
     {
@@ -188,12 +183,13 @@ impl Chip {
     {
         let byte = self.latch(place);
         match place.port() {
-            Some(port) => byte & board.level(port),
+            Some(port) => byte & board.level(u8::from(port)),
             None => byte,
         }
     }
 
     // Puts a byte into a place.
+    #[tactic(auto, unfolding(crate::specs::Places::write_of))]
     pub(crate) fn write(&mut self, place: Place, byte: u8)
         ensures { self.new ≡ write_of self.old place byte }
     {

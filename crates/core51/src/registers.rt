@@ -36,8 +36,7 @@ impl Registers {
     pub fn set_dptr(&mut self, address: u16)
         ensures { self.new ≡ pointed_of self.old address }
     {
-        self.dph = (address / 256) as u8;
-        self.dpl = (address % 256) as u8;
+        [self.dph, self.dpl] = address.to_be_bytes();
     }
 
     // The byte in R0 or R1.

@@ -37,8 +37,9 @@ impl Registers {
         let second = first.wrapping_add(1);
         let low = indirect(first)?;
         let high = indirect(second)?;
-        self.store(low, (address % 256) as u8);
-        self.store(high, (address / 256) as u8);
+        let [high_byte, low_byte] = address.to_be_bytes();
+        self.store(low, low_byte);
+        self.store(high, high_byte);
         self.sp = second;
         Ok(())
     }

@@ -1,8 +1,9 @@
 -- Every accepted instruction shows what specs/Laws.antt says.
 use Rattle.std.proofs.Common.{◌≡◌, ℕ, ◌+◌, ◌*◌, ◌/◌, ◌<◌, ◌≤◌, Bool, true, false, cond, not, ◌&&◌, ◌||◌, eqb, ltb, ◌≢◌, List, is_some, Some, None, Ok, Err, Option, Result, sym, refl, ap, ◌∙◌, subst, inl, inr, arith}
 use Rattle.std.proofs.lemmas.Bool.Decides.{nat_tests}
-use Rattle.std.proofs.lemmas.Bool.{cases_lt, cases_eq, eq-eqb, ne_eqb}
+use Rattle.std.proofs.lemmas.Bool.{cases_lt, cases_eq, eq-eqb, ne_eqb, cond_both}
 use Rattle.outcome.specs.Outcome.{kept, then}
+use Rattle.records.specs.declared.ports.Port.{Port}
 use Rattle.boards.specs.Board.{Pins}
 use Rattle.buses.specs.declared.bus.BusFault.{BusFault}
 use Rattle.buses.specs.Memory.{Memory, answer, accepts, put, written}
@@ -30,14 +31,13 @@ use Rattle.instructions.proofs.TablesHold.{cycles_hold, refused_hold, unpolled_h
 use Rattle.core51.specs.declared.fault.Fault.{Fault}
 use Rattle.core51.specs.declared.fault.Fault.TheVariants.{NoRegister, NoRam}
 use Rattle.core51.specs.declared.places.Place.{Place}
-use Rattle.core51.specs.declared.operands.Places.{Places}
 use Rattle.core51.specs.declared.state.Registers.{Registers}
 use Rattle.core51.specs.declared.state.Chip.{Chip}
 use Rattle.core51.specs.State.{with_registers}
 use Rattle.core51.specs.Registers.{dptr_of, pointer_of}
 use Rattle.core51.specs.Stack.{up, down, push_of, pop_of, push_address_of, pop_address_of}
 use Rattle.core51.specs.Places.{at_address, direct_of, indirect_of, place_of, port_of, put_of, write_of}
-use Rattle.core51.specs.Operands.{is_indirect, named_of, two_places, places_of, read_of, committed_of}
+use Rattle.core51.specs.Operands.{Places, is_indirect, named_of, two_places, places_of, read_of, committed_of}
 use Rattle.execute51.specs.declared.effect.Answer.{Answer}
 use Rattle.execute51.specs.declared.external.Access.{Access}
 use Rattle.execute51.specs.declared.told.Done.{Done}
@@ -74,14 +74,6 @@ all_if : {A E H : Type 0} (P : A → Type 0) (x : Result A E) → (H → All P x
 all_if P (Ok a) f = f
 all_if P (Err e) f = tt
 
-all_when : {A E : Type 0} (P : A → Type 0) (b : Bool) (x : A) (e : E) → (b ≡ true → P x) → All P (cond b (Ok x) (Err e))
-all_when P true x e f = f refl
-all_when P false x e f = tt
-
-pub all_either : {A E : Type 0} (P : A → Type 0) (b : Bool) (x y : Result A E) → (b ≡ true → All P x) → (b ≡ false → All P y) → All P (cond b x y)
-all_either P true x y f g = f refl
-all_either P false x y f g = g refl
-
 -- a place that is not IE or IP
 abbrev Elsewhere : Place → Type 0
 Elsewhere p = (p.at ≢ 0xa8) × (p.at ≢ 0xb8)
@@ -96,26 +88,27 @@ operand_elsewhere r (Register n) h = (λ e. omega arith, λ e. omega arith)
 operand_elsewhere r (Direct a) h =
     let f : a ≢ 0xa8 = λ e. grind (arith, nat_tests) in
     let g : a ≢ 0xb8 = λ e. grind (arith, nat_tests) in
-    all_when Elsewhere (ltb a 0x80 || is_register_of a) (at_address a) NoRegister (λ t. (f, g))
+    cond_both (ltb a 0x80 || is_register_of a) (Ok (at_address a)) (Err NoRegister) (All Elsewhere) (λ t. (f, g)) (λ t. tt)
 operand_elsewhere r (Indirect n) h =
-    all_when Elsewhere (ltb (pointer_of r n) 0x80) (at_address (pointer_of r n)) NoRam
-    (λ t. (λ e. grind (arith, nat_tests), λ e. grind (arith, nat_tests)))
+    cond_both (ltb (pointer_of r n) 0x80) (Ok (at_address (pointer_of r n))) (Err NoRam) (All Elsewhere)
+    (λ t. (λ e. grind (arith, nat_tests), λ e. grind (arith, nat_tests))) (λ t. tt)
 operand_elsewhere r (Bit b) h =
-    all_either Elsewhere (ltb b 0x80) (Ok (at_address (0x20 + b / 8))) (direct_of (b / 8 * 8))
+    cond_both (ltb b 0x80) (Ok (at_address (0x20 + b / 8))) (direct_of (b / 8 * 8)) (All Elsewhere)
     (λ t. (λ e. grind (arith, nat_tests), λ e. grind (arith, nat_tests)))
     (λ t. let f : b / 8 * 8 ≢ 0xa8 = λ e. grind (arith, nat_tests) in
     let g : b / 8 * 8 ≢ 0xb8 = λ e. grind (arith, nat_tests) in
-    all_when Elsewhere (ltb (b / 8 * 8) 0x80 || is_register_of (b / 8 * 8)) (at_address (b / 8 * 8)) NoRegister (λ u. (f, g)))
+    cond_both (ltb (b / 8 * 8) 0x80 || is_register_of (b / 8 * 8)) (Ok (at_address (b / 8 * 8))) (Err NoRegister) (All Elsewhere)
+    (λ u. (f, g)) (λ u. tt))
 
 named_elsewhere : (r : Registers) (o : Option Operand) → is_ie_or_ip o ≡ false → All ElsewhereIf (named_of r o)
 named_elsewhere r None h = tt
 named_elsewhere r (Some o) h = all_then Elsewhere ElsewhereIf (place_of r o) (λ p. Ok (Some p)) (operand_elsewhere r o h) (λ p k. k)
 
-target_elsewhere : (r : Registers) (o : Operands) → is_ie_or_ip o.target ≡ false
+target_elsewhere : (r : Registers) (o : Operands Operand) → is_ie_or_ip o.target ≡ false
     → All (λ p. ElsewhereIf p.target) (places_of r o)
 target_elsewhere r o h =
     let Q : Places → Type 0 = λ p. ElsewhereIf p.target in
-    all_either Q (is_indirect o.target) _ _
+    cond_both (is_indirect o.target) _ _ (All Q)
     (λ t. all_then (λ s. Unit {0}) Q (named_of r o.source) _ (any (named_of r o.source))
     (λ s u. all_then ElsewhereIf Q (named_of r o.target) (λ t. Ok (two_places t s)) (named_elsewhere r o.target h) (λ t k. k)))
     (λ t. all_then ElsewhereIf Q (named_of r o.target) _ (named_elsewhere r o.target h)
@@ -275,7 +268,7 @@ control_changes (Djnz x o) n t s r = (refl, refl)
 control_changes Nop n t s r = (refl, refl)
 
 -- of the group that can use the bus
-abbrev Moved : Registers → Memory → Option Operand → (Option ℕ × Access) × (Registers × Memory) → Type 0
+abbrev Moved : Registers → Memory → Option Operand → (Option ℕ × Option Access) × (Registers × Memory) → Type 0
 Moved r m target x =
     Accessed x.0.1 m.store x.1.1.store × (x.1.0.latches ≡ r.latches) × (is_some x.0.0 ≡ is_some target)
 
@@ -294,14 +287,14 @@ moves_told MovcDptr next target source r m = looks_up (dptr_of r) r m
 moves_told MovcPc next target source r m = looks_up next r m
 moves_told (MovxRead from) next target source r m =
     let a = address_of r from in
-    let P : Access × Registers → Type 0 = λ y. Moved r m None ((None, y.0), (y.1, m)) in
+    let P : Access × Registers → Type 0 = λ y. Moved r m None ((None, Some y.0), (y.1, m)) in
     all_then P (Moved r m None) (movx_read_of from r m) _
     (all_then (λ byte. m.store a ≡ Some byte) P (as_data (answer (m.store a))) _ (read_there m a (m.store a) refl)
     (λ byte e. ((e, λ x. refl), refl, refl)))
     (λ y h. h)
 moves_told (MovxWrite to) next target source r m =
     let a = address_of r to in
-    let P : Access × Memory → Type 0 = λ y. Moved r m None ((None, y.0), (r, y.1)) in
+    let P : Access × Memory → Type 0 = λ y. Moved r m None ((None, Some y.0), (r, y.1)) in
     let Q : Unit {0} × Memory → Type 0 = λ x. (x.1.store a ≡ Some r.a) × ((y : ℕ) → y ≢ a → x.1.store y ≡ m.store y) in
     all_then P (Moved r m None) (movx_write_of to r m) _
     (all_then Q P (write_data_of m a r.a) _ (write_there m a r.a (accepts (m.store a) (m.writable a))) (λ y h. (h, refl, refl)))
@@ -373,7 +366,7 @@ write_latches c a byte =
                       elim (cases_eq a 0xb0) [
                         | inl e ↦ subst (Written c byte) (sym e) refl
                         | inr f3 ↦
-                            subst (λ (o : Option ℕ). Latched (to_port o byte) c.registers.latches (write_of c (at_address a) byte).registers.latches)
+                            subst (λ (o : Option Port). Latched (to_port o byte) c.registers.latches (write_of c (at_address a) byte).registers.latches)
                             (sym (no_port a f0 f1 f2 f3)) (write_elsewhere c a byte f0 f1 f2 f3)
                       ]
                 ]

@@ -1,5 +1,5 @@
 -- The effect of any instruction on the registers and the memory.
-use Rattle.std.specs.Prelude.{ℕ, Ok, Option, Result}
+use Rattle.std.specs.Prelude.{ℕ, None, Ok, Option, Result}
 use Rattle.outcome.specs.Outcome.{then}
 use Rattle.buses.specs.Memory.{Memory}
 use Rattle.instructions.specs.declared.Instruction.{Instruction}
@@ -8,7 +8,6 @@ use Rattle.core51.specs.declared.fault.Fault.{Fault}
 use Rattle.core51.specs.declared.state.Registers.{Registers}
 use Rattle.execute51.specs.declared.effect.Answer.{Answer}
 use Rattle.execute51.specs.declared.external.Access.{Access}
-use Rattle.execute51.specs.declared.external.Access.TheVariants.{Nothing}
 use Rattle.execute51.specs.Arithmetic.{arithmetic_of}
 use Rattle.execute51.specs.Logical.{logical_of}
 use Rattle.execute51.specs.Transfer.{transfer_of}
@@ -17,10 +16,10 @@ use Rattle.execute51.specs.Control.{control_of}
 
 -- no access to external data
 abbrev pub inside_chip : Option ℕ → ℕ → Answer
-inside_chip b n = record { byte = b; next = n; access = Nothing }
+inside_chip b n = record { byte = b; next = n; access = None }
 
 -- with an access to external data, or none
-abbrev pub answers : Option ℕ → ℕ → Access → Answer
+abbrev pub answers : Option ℕ → ℕ → Option Access → Answer
 answers b n a = record { byte = b; next = n; access = a }
 
 -- what is answered, the registers and the memory; or a refusal

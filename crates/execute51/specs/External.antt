@@ -1,19 +1,14 @@
 -- Code bytes and external data bytes, by the bus.
 use Rattle.std.specs.Prelude.{ℕ, Ok, Err, Result}
 use Rattle.buses.specs.declared.bus.BusFault.{BusFault}
-use Rattle.buses.specs.declared.bus.BusFault.TheVariants.{NotFitted, Fenced}
 use Rattle.buses.specs.Memory.{Memory, answer, write_of}
 use Rattle.instructions.specs.declared.External.{External}
 use Rattle.instructions.specs.declared.External.TheVariants.{Pointer, Register}
 use Rattle.core51.specs.declared.fault.Fault.{Fault}
-use Rattle.core51.specs.declared.fault.Fault.TheVariants.{CodeNotFitted, DataNotFitted, DataFenced}
+use Rattle.core51.specs.declared.fault.Fault.TheVariants.{CodeNotFitted}
 use Rattle.core51.specs.declared.state.Registers.{Registers}
+use Rattle.core51.specs.Faults.{fault_of}
 use Rattle.core51.specs.Registers.{dptr_of, pointer_of}
-
--- why an access to external data is refused
-abbrev pub fault_of : BusFault → Fault
-fault_of NotFitted = DataNotFitted
-fault_of Fenced = DataFenced
 
 -- a refusal of the bus, at external data and at code
 abbrev pub as_data : {A : Type 0} → Result A BusFault → Result A Fault

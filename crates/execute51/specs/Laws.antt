@@ -1,5 +1,6 @@
 -- What every accepted instruction shows, whichever it is.
 use Rattle.std.specs.Prelude.{◌≡◌, ℕ, ◌<◌, ◌≤◌, true, false, ◌≢◌, List, is_some, Some, None, Ok, Err, Option, Result, ◌==◌, slice_set}
+use Rattle.records.specs.Port.{port_number}
 use Rattle.buses.specs.Memory.{Memory}
 use Rattle.instructions.specs.declared.Instruction.{Instruction}
 use Rattle.instructions.specs.Operands.{operands_of}
@@ -7,21 +8,21 @@ use Rattle.core51.specs.declared.fault.Fault.{Fault}
 use Rattle.core51.specs.declared.state.Registers.{Registers}
 use Rattle.core51.specs.declared.state.Chip.{Chip}
 use Rattle.execute51.specs.declared.external.Access.{Access}
-use Rattle.execute51.specs.declared.external.Access.TheVariants.{Nothing, Read, Write}
+use Rattle.execute51.specs.declared.external.Access.TheVariants.{Read, Write}
 use Rattle.execute51.specs.declared.told.PortWrite.{PortWrite}
 use Rattle.execute51.specs.declared.told.Told.{Told}
 use Rattle.execute51.specs.Effect.{Effect, effect_of}
 
 -- what an access does to the data bytes
-abbrev pub Accessed : Access → (ℕ → Option ℕ) → (ℕ → Option ℕ) → Type 0
-Accessed Nothing old new = (x : ℕ) → new x ≡ old x
-Accessed (Read address byte) old new = (old address ≡ Some byte) × ((x : ℕ) → new x ≡ old x)
-Accessed (Write address byte) old new = (new address ≡ Some byte) × ((x : ℕ) → x ≢ address → new x ≡ old x)
+abbrev pub Accessed : Option Access → (ℕ → Option ℕ) → (ℕ → Option ℕ) → Type 0
+Accessed None old new = (x : ℕ) → new x ≡ old x
+Accessed (Some (Read address byte)) old new = (old address ≡ Some byte) × ((x : ℕ) → new x ≡ old x)
+Accessed (Some (Write address byte)) old new = (new address ≡ Some byte) × ((x : ℕ) → x ≢ address → new x ≡ old x)
 
 -- what a port write does to the latches of the four ports
 abbrev pub Latched : Option PortWrite → List ℕ → List ℕ → Type 0
 Latched None old new = new ≡ old
-Latched (Some w) old new = new ≡ slice_set old w.port w.byte
+Latched (Some w) old new = new ≡ slice_set old (port_number w.port) w.byte
 
 -- the chip and the memory before, what is told, the chip and the memory after
 pub record Shown (c : Chip) (m : Memory) (t : Told) (d : Chip) (n : Memory) : Type 0 where

@@ -1,5 +1,6 @@
 -- What an executed instruction tells.
 use Rattle.std.specs.Prelude.{ℕ, Some, None, Option}
+use Rattle.records.specs.declared.ports.Port.{Port}
 use Rattle.instructions.specs.declared.Instruction.{Instruction}
 use Rattle.instructions.specs.Operands.{is_reti_of, polls_of}
 use Rattle.instructions.specs.Tables.{cycles_of}
@@ -11,9 +12,9 @@ use Rattle.execute51.specs.declared.told.Done.{Done}
 use Rattle.execute51.specs.declared.told.Told.{Told}
 
 -- a byte put into the latch of a port
-abbrev pub to_port : Option ℕ → ℕ → Option PortWrite
+abbrev pub to_port : Option Port → ℕ → Option PortWrite
 to_port None b = None
-to_port (Some n) b = Some (record { port = n; byte = b })
+to_port (Some p) b = Some (record { port = p; byte = b })
 
 -- the port write of an instruction that puts a byte into a place
 abbrev pub port_write_of : Option Place → Option ℕ → Option PortWrite

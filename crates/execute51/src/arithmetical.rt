@@ -1,9 +1,8 @@
 // Sums and differences into A, counting, multiplying, dividing, decimal adjustment.
 ghost use Rattle.std.specs.Prelude.{◌≡◌};
-ghost use Rattle.execute51.specs.Values.{value_of};
 ghost use Rattle.execute51.specs.Arithmetic.{resulting, both_resulting, arithmetic_of};
 
-use crate::values::value;
+use crate::values::Inputs;
 use arithmetic::bits::{AUXILIARY, CARRY, OVERFLOW, bit};
 use arithmetic::sums::{add, decimal_adjust, divide, multiply, subtract};
 use core51::state::Registers;
@@ -27,27 +26,27 @@ fn both(registers: &mut Registers, a: u8, b: u8, flags: u8)
 }
 
 // The effect on the registers, and the byte that the target becomes.
-pub(crate) fn effect(registers: &mut Registers, i: Arithmetic, target: u8, source: u8) -> Option<u8>
-    ensures { (result, registers.new) ≡ arithmetic_of i target source registers.old }
+pub(crate) fn effect(registers: &mut Registers, i: Arithmetic, inputs: Inputs) -> Option<u8>
+    ensures { (result, registers.new) ≡ arithmetic_of i inputs.target inputs.source registers.old }
 {
     match i {
         Arithmetic::Add(from) => {
-            let (sum, flags) = add(registers.a, value(from, source), false);
+            let (sum, flags) = add(registers.a, inputs.value(from), false);
             result(registers, sum, flags);
             None
         }
         Arithmetic::Addc(from) => {
-            let (sum, flags) = add(registers.a, value(from, source), registers.carry());
+            let (sum, flags) = add(registers.a, inputs.value(from), registers.carry());
             result(registers, sum, flags);
             None
         }
         Arithmetic::Subb(from) => {
-            let (rest, flags) = subtract(registers.a, value(from, source), registers.carry());
+            let (rest, flags) = subtract(registers.a, inputs.value(from), registers.carry());
             result(registers, rest, flags);
             None
         }
-        Arithmetic::Inc(_) => Some(target.wrapping_add(1)),
-        Arithmetic::Dec(_) => Some(target.wrapping_sub(1)),
+        Arithmetic::Inc(_) => Some(inputs.target.wrapping_add(1)),
+        Arithmetic::Dec(_) => Some(inputs.target.wrapping_sub(1)),
         Arithmetic::IncDptr => {
             registers.set_dptr(registers.dptr().wrapping_add(1));
             None

@@ -1,9 +1,10 @@
 // The effect of any instruction on the registers and the bus.
 ghost use Rattle.std.specs.Prelude.{◌≡◌};
 ghost use Rattle.outcome.specs.Outcome.{kept};
-ghost use Rattle.execute51.specs.Effect.{inside_chip, effect_steps, effect_of};
+ghost use Rattle.execute51.specs.Effect.{inside_chip, effect_of};
 
 use crate::external::Access;
+use crate::values::Inputs;
 use crate::{arithmetical, boolean, control, logical, transfer};
 use buses::Bus;
 use core51::fault::Fault;
@@ -15,7 +16,7 @@ use instructions::Instruction;
 pub(crate) struct Answer {
     pub byte: Option<u8>,
     pub next: u16,
-    pub access: Access,
+    pub access: Option<Access>,
 }
 
 fn inside(byte: Option<u8>, next: u16) -> Answer
@@ -24,54 +25,44 @@ fn inside(byte: Option<u8>, next: u16) -> Answer
     Answer {
         byte,
         next,
-        access: Access::Nothing,
-    }
-}
-
-fn effect_steps<B: Bus>(
-    registers: &mut Registers,
-    bus: &mut B,
-    i: Instruction,
-    next: u16,
-    target: u8,
-    source: u8,
-) -> Result<Answer, Fault>
-    ensures { (result, (registers.new, B.memory bus.new)) ≡ kept (registers.old, B.memory bus.old) (effect_steps i next target source registers.old (B.memory bus.old)) }
-{
-    match i {
-        Instruction::Arithmetic(i) => {
-            let byte = arithmetical::effect(registers, i, target, source);
-            Ok(inside(byte, next))
-        }
-        Instruction::Logical(i) => {
-            let byte = logical::effect(registers, i, target, source);
-            Ok(inside(byte, next))
-        }
-        Instruction::Transfer(i) => {
-            let (byte, access) = transfer::effect(registers, bus, i, next, target, source)?;
-            Ok(Answer { byte, next, access })
-        }
-        Instruction::Boolean(i) => {
-            let (byte, to) = boolean::effect(registers, i, next, target, source);
-            Ok(inside(byte, to))
-        }
-        Instruction::Control(i) => {
-            let (byte, to) = control::effect(registers, i, next, target, source)?;
-            Ok(inside(byte, to))
-        }
+        access: None,
     }
 }
 
 // The effect of an instruction, with the address after it and the bytes of its target and its source.
+#[tactic(auto, unfolding(crate::specs::Effect::effect_of))]
 pub(crate) fn effect<B: Bus>(
     registers: &mut Registers,
     bus: &mut B,
     i: Instruction,
-    next: u16,
-    target: u8,
-    source: u8,
+    inputs: Inputs,
 ) -> Result<Answer, Fault>
-    ensures { (result, (registers.new, B.memory bus.new)) ≡ kept (registers.old, B.memory bus.old) (effect_of i next target source registers.old (B.memory bus.old)) }
+    ensures { (result, (registers.new, B.memory bus.new)) ≡ kept (registers.old, B.memory bus.old) (effect_of i inputs.next inputs.target inputs.source registers.old (B.memory bus.old)) }
 {
-    effect_steps(registers, bus, i, next, target, source)
+    match i {
+        Instruction::Arithmetic(i) => {
+            let byte = arithmetical::effect(registers, i, inputs);
+            Ok(inside(byte, inputs.next))
+        }
+        Instruction::Logical(i) => {
+            let byte = logical::effect(registers, i, inputs);
+            Ok(inside(byte, inputs.next))
+        }
+        Instruction::Transfer(i) => {
+            let (byte, access) = transfer::effect(registers, bus, i, inputs)?;
+            Ok(Answer {
+                byte,
+                next: inputs.next,
+                access,
+            })
+        }
+        Instruction::Boolean(i) => {
+            let (byte, to) = boolean::effect(registers, i, inputs);
+            Ok(inside(byte, to))
+        }
+        Instruction::Control(i) => {
+            let (byte, to) = control::effect(registers, i, inputs)?;
+            Ok(inside(byte, to))
+        }
+    }
 }

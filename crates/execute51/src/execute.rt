@@ -1,12 +1,13 @@
 // One instruction: fetched, decoded, its places looked up, its effect made, its byte put back, PC stored last.
 ghost use Rattle.std.specs.Prelude.{◌≡◌};
 ghost use Rattle.outcome.specs.Outcome.{kept};
-ghost use Rattle.execute51.specs.Execute.{is_exchange, target_byte, perform_steps, perform_of, instruction_steps, instruction_of, execute_steps, execute_of};
+ghost use Rattle.execute51.specs.Execute.{is_exchange, target_byte, perform_of, instruction_of, execute_of};
 ghost use Rattle.execute51.specs.Laws.{Shows, ShowsOpcode};
 
 use crate::effect::effect;
 use crate::fetch::fetch;
 use crate::told::{Done, Told, port_write};
+use crate::values::Inputs;
 use boards::board::Board;
 use buses::Bus;
 use core51::fault::Fault;
@@ -21,10 +22,7 @@ use instructions::{Instruction, Transfer};
 fn is_exchange(i: Instruction) -> bool
     ensures { result ≡ is_exchange i }
 {
-    match i {
-        Instruction::Transfer(Transfer::Xch(_)) => true,
-        _ => false,
-    }
+    matches!(i, Instruction::Transfer(Transfer::Xch(_)))
 }
 
 // The byte of the target, before the instruction.
@@ -38,28 +36,8 @@ fn target_byte<D: Board>(chip: &Chip, board: &D, i: Instruction, place: Option<P
     }
 }
 
-fn perform_steps<B: Bus, D: Board>(
-    chip: &mut Chip,
-    bus: &mut B,
-    board: &D,
-    i: Instruction,
-    next: u16,
-) -> Result<Done, Fault>
-    ensures { (result, (chip.new, B.memory bus.new)) ≡ kept (chip.old, B.memory bus.old) (perform_steps (D.pins board.now) i next chip.old (B.memory bus.old)) }
-{
-    let places = chip.registers.places(i.operands())?;
-    let target = target_byte(chip, board, i, places.target);
-    let source = chip.read(places.source, board);
-    let answer = effect(&mut chip.registers, bus, i, next, target, source)?;
-    chip.commit(places.target, answer.byte);
-    chip.registers.pc = answer.next;
-    Ok(Done {
-        port: port_write(places.target, answer.byte),
-        access: answer.access,
-    })
-}
-
 // A decoded instruction, with the address after it.
+#[tactic(auto, unfolding(crate::specs::Execute::perform_of))]
 fn perform<B: Bus, D: Board>(
     chip: &mut Chip,
     bus: &mut B,
@@ -69,20 +47,28 @@ fn perform<B: Bus, D: Board>(
 ) -> Result<Done, Fault>
     ensures { (result, (chip.new, B.memory bus.new)) ≡ kept (chip.old, B.memory bus.old) (perform_of (D.pins board.now) i next chip.old (B.memory bus.old)) }
 {
-    perform_steps(chip, bus, board, i, next)
+    let places = chip.registers.places(i.operands())?;
+    let inputs = Inputs {
+        next,
+        target: target_byte(chip, board, i, places.target),
+        source: chip.read(places.source, board),
+    };
+    let answer = effect(&mut chip.registers, bus, i, inputs)?;
+    chip.commit(places.target, answer.byte);
+    chip.registers.pc = answer.next;
+    Ok(Done {
+        port: port_write(places.target, answer.byte),
+        access: answer.access,
+    })
 }
 
-fn instruction_steps<B: Bus, D: Board>(
-    chip: &mut Chip,
-    bus: &mut B,
-    board: &D,
-) -> Result<Told, Fault>
-    ensures { (result, (chip.new, B.memory bus.new)) ≡ kept (chip.old, B.memory bus.old) (instruction_steps (D.pins board.now) chip.old (B.memory bus.old)) }
+// The instruction at PC, but for the parity of A.
+#[tactic(auto, unfolding(crate::specs::Execute::instruction_of))]
+fn instruction<B: Bus, D: Board>(chip: &mut Chip, bus: &mut B, board: &D) -> Result<Told, Fault>
+    ensures { (result, (chip.new, B.memory bus.new)) ≡ kept (chip.old, B.memory bus.old) (instruction_of (D.pins board.now) chip.old (B.memory bus.old)) }
 {
     let fetched = fetch(bus, chip.registers.pc)?;
-    let Some(i) = decode(fetched.opcode, fetched.first, fetched.second) else {
-        return Err(Fault::NoInstruction);
-    };
+    let i = decode(fetched.opcode, fetched.first, fetched.second).ok_or(Fault::NoInstruction)?;
     let done = perform(chip, bus, board, i, fetched.next)?;
     Ok(Told {
         opcode: fetched.opcode,
@@ -94,26 +80,14 @@ fn instruction_steps<B: Bus, D: Board>(
     })
 }
 
-// The instruction at PC, but for the parity of A.
-fn instruction<B: Bus, D: Board>(chip: &mut Chip, bus: &mut B, board: &D) -> Result<Told, Fault>
-    ensures { (result, (chip.new, B.memory bus.new)) ≡ kept (chip.old, B.memory bus.old) (instruction_of (D.pins board.now) chip.old (B.memory bus.old)) }
-{
-    instruction_steps(chip, bus, board)
-}
-
-fn execute_steps<B: Bus, D: Board>(core: &mut Core, bus: &mut B, board: &D) -> Result<Told, Fault>
-    ensures { (result, (core.new.chip, B.memory bus.new)) ≡ kept (core.old.chip, B.memory bus.old) (execute_steps (D.pins board.now) core.old.chip (B.memory bus.old)) }
-{
-    let told = instruction(&mut core.chip, bus, board)?;
-    core.chip.registers.settle();
-    Ok(told)
-}
-
 // The instruction at PC: what it tells, or why it is refused, with nothing changed.
+#[tactic(auto, unfolding(crate::specs::Execute::execute_of))]
 pub fn execute<B: Bus, D: Board>(core: &mut Core, bus: &mut B, board: &D) -> Result<Told, Fault>
     ensures effect { (result, (core.new.chip, B.memory bus.new)) ≡ kept (core.old.chip, B.memory bus.old) (execute_of (D.pins board.now) core.old.chip (B.memory bus.old)) }
     ensures shows { Shows core.old.chip (B.memory bus.old) result core.new.chip (B.memory bus.new) }
     ensures opcode { ShowsOpcode result }
 {
-    execute_steps(core, bus, board)
+    let told = instruction(&mut core.chip, bus, board)?;
+    core.chip.registers.settle();
+    Ok(told)
 }

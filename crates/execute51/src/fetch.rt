@@ -1,6 +1,6 @@
 // The bytes of an instruction.
 ghost use Rattle.std.specs.Prelude.{◌≡◌};
-ghost use Rattle.execute51.specs.Fetch.{operand_byte, fetch_steps, fetch_of};
+ghost use Rattle.execute51.specs.Fetch.{operand_byte, fetch_of};
 
 use crate::external::code;
 use buses::Bus;
@@ -26,8 +26,10 @@ fn operand<B: Bus>(bus: &B, pc: u16, size: u8, k: u8) -> Result<u8, Fault>
     }
 }
 
-fn fetch_steps<B: Bus>(bus: &B, pc: u16) -> Result<Fetched, Fault>
-    ensures { result ≡ fetch_steps (B.memory bus.now) pc }
+// The bytes of the instruction at an address.
+#[tactic(auto, unfolding(crate::specs::Fetch::fetch_of))]
+pub(crate) fn fetch<B: Bus>(bus: &B, pc: u16) -> Result<Fetched, Fault>
+    ensures { result ≡ fetch_of (B.memory bus.now) pc }
 {
     let opcode = code(bus, pc)?;
     let size = length(opcode);
@@ -40,11 +42,4 @@ fn fetch_steps<B: Bus>(bus: &B, pc: u16) -> Result<Fetched, Fault>
         second,
         next,
     })
-}
-
-// The bytes of the instruction at an address.
-pub(crate) fn fetch<B: Bus>(bus: &B, pc: u16) -> Result<Fetched, Fault>
-    ensures { result ≡ fetch_of (B.memory bus.now) pc }
-{
-    fetch_steps(bus, pc)
 }

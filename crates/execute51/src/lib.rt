@@ -9,7 +9,6 @@ mod effect;
 pub mod execute;
 pub mod external;
 mod fetch;
-mod jumps;
 mod logical;
 pub mod told;
 mod transfer;

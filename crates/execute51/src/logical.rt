@@ -2,7 +2,7 @@
 ghost use Rattle.std.specs.Prelude.{◌≡◌};
 ghost use Rattle.execute51.specs.Logical.{rotated, logical_of};
 
-use crate::values::value;
+use crate::values::Inputs;
 use arithmetic::bits::CARRY;
 use arithmetic::shifts::{rotate_left, rotate_left_carry, rotate_right, rotate_right_carry, swap};
 use core51::state::Registers;
@@ -17,13 +17,13 @@ fn rotate(registers: &mut Registers, byte: u8, flags: u8)
 }
 
 // The effect on the registers, and the byte that the target becomes.
-pub(crate) fn effect(registers: &mut Registers, i: Logical, target: u8, source: u8) -> Option<u8>
-    ensures { (result, registers.new) ≡ logical_of i target source registers.old }
+pub(crate) fn effect(registers: &mut Registers, i: Logical, inputs: Inputs) -> Option<u8>
+    ensures { (result, registers.new) ≡ logical_of i inputs.target inputs.source registers.old }
 {
     match i {
-        Logical::Anl { source: from, .. } => return Some(target & value(from, source)),
-        Logical::Orl { source: from, .. } => return Some(target | value(from, source)),
-        Logical::Xrl { source: from, .. } => return Some(target ^ value(from, source)),
+        Logical::Anl { source: from, .. } => return Some(inputs.target & inputs.value(from)),
+        Logical::Orl { source: from, .. } => return Some(inputs.target | inputs.value(from)),
+        Logical::Xrl { source: from, .. } => return Some(inputs.target ^ inputs.value(from)),
         Logical::ClrA => registers.a = 0,
         Logical::CplA => registers.a = !registers.a,
         Logical::Rl => registers.a = rotate_left(registers.a),

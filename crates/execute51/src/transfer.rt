@@ -5,7 +5,7 @@ ghost use Rattle.execute51.specs.Transfer.{look_up_of, movx_read_of, movx_write_
 
 use crate::external;
 use crate::external::Access;
-use crate::values::value;
+use crate::values::Inputs;
 use arithmetic::addresses::indexed;
 use arithmetic::shifts::exchange_digits;
 use buses::Bus;
@@ -49,37 +49,35 @@ pub(crate) fn effect<B: Bus>(
     registers: &mut Registers,
     bus: &mut B,
     i: Transfer,
-    next: u16,
-    target: u8,
-    source: u8,
-) -> Result<(Option<u8>, Access), Fault>
-    ensures { (result, (registers.new, B.memory bus.new)) ≡ kept (registers.old, B.memory bus.old) (transfer_of i next target source registers.old (B.memory bus.old)) }
+    inputs: Inputs,
+) -> Result<(Option<u8>, Option<Access>), Fault>
+    ensures { (result, (registers.new, B.memory bus.new)) ≡ kept (registers.old, B.memory bus.old) (transfer_of i inputs.next inputs.target inputs.source registers.old (B.memory bus.old)) }
 {
     let byte = match i {
-        Transfer::Mov { source: from, .. } => Some(value(from, source)),
+        Transfer::Mov { source: from, .. } => Some(inputs.value(from)),
         Transfer::MovDptr(address) => {
             registers.set_dptr(address);
             None
         }
         Transfer::MovcDptr => look_up(registers, bus, registers.dptr())?,
-        Transfer::MovcPc => look_up(registers, bus, next)?,
-        Transfer::MovxRead(from) => return Ok((None, movx_read(registers, bus, from)?)),
-        Transfer::MovxWrite(to) => return Ok((None, movx_write(registers, bus, to)?)),
+        Transfer::MovcPc => look_up(registers, bus, inputs.next)?,
+        Transfer::MovxRead(from) => return Ok((None, Some(movx_read(registers, bus, from)?))),
+        Transfer::MovxWrite(to) => return Ok((None, Some(movx_write(registers, bus, to)?))),
         Transfer::Push(_) => {
-            registers.push(source)?;
+            registers.push(inputs.source)?;
             None
         }
         Transfer::Pop(_) => Some(registers.pop()?),
         Transfer::Xch(_) => {
             let old = registers.a;
-            registers.a = target;
+            registers.a = inputs.target;
             Some(old)
         }
         Transfer::Xchd(_) => {
-            let (a, other) = exchange_digits(registers.a, target);
+            let (a, other) = exchange_digits(registers.a, inputs.target);
             registers.a = a;
             Some(other)
         }
     };
-    Ok((byte, Access::Nothing))
+    Ok((byte, None))
 }
