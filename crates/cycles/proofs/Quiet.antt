@@ -1,35 +1,29 @@
 -- Cycles in which nothing happens.
-use Rattle.std.proofs.Common.{◌≡◌, ℕ, ◌+◌, ◌-◌, ◌*◌, ◌/◌, ◌%◌, Bool, true, false, not, ◌&&◌, ◌||◌, eqb, refl, ap, ◌∙◌, arith}
+use Rattle.std.proofs.Common.{◌≡◌, ℕ, ◌+◌, ◌-◌, ◌*◌, ◌%◌, Bool, true, false, not, ◌&&◌, ◌||◌, eqb, refl, ap, ◌∙◌, arith}
 use Rattle.std.proofs.lemmas.Bool.Decides.{nat_tests}
-use Rattle.std.proofs.lemmas.Bool.{cond-false}
+use Rattle.std.proofs.lemmas.Bool.{and_left, and_right, cond-false}
 use Rattle.arithmetic.specs.Flags.{as_bit}
 use Rattle.arithmetic.specs.Bits.{weight, bit_of, with_bit_of}
 use Rattle.core51.specs.declared.state.Timers.{Timers}
 use Rattle.core51.specs.State.{with_tcon}
-use Rattle.cycles.specs.Timers.{falls_of, counts_of, is_split, timer0_of, upper0_of, timer1_of, timers_of}
-use Rattle.cycles.specs.Flags.{external_of, external0_of, external1_of, flags_of}
+use Rattle.cycles.specs.declared.sample.Sample.{Sample}
+use Rattle.cycles.specs.Timers.{runs_of, bits1, is_split, timer0_of, upper0_of, timer1_of, timers_of}
+use Rattle.cycles.specs.declared.flags.ExternalBits.{ExternalBits}
+use Rattle.cycles.specs.Flags.{external_bits0, external_bits1, external_of, external_tcon, external1_of, flags_of}
 use Rattle.cycles.specs.Sample.{sample_of, requests}
 use Rattle.cycles.specs.State.{with_pins}
 use Rattle.cycles.specs.Cycle.{is_quiet, tick_of}
 
-off : (a b : Bool) → b ≡ false → (a && b) ≡ false
-off true b h = h
-off false b h = refl
-
 -- stopped timers stay
 timer0_stays : (pins : ℕ) (t : Timers) → bit_of t.tcon 4 ≡ false → timer0_of pins t ≡ t
-timer0_stays pins t run =
-    cond-false _ _ _ (ap (λ b. counts_of b (bit_of t.tmod 3) (bit_of pins 2) (bit_of t.tmod 2) (falls_of t.pins pins 4)) run)
+timer0_stays pins t run = cond-false _ _ _ (and_left _ _ (and_left _ _ run))
 
 upper0_stays : (t : Timers) → is_split t.tmod ≡ false → upper0_of t ≡ t
-upper0_stays t split = cond-false _ _ _ (ap (λ b. b && bit_of t.tcon 6) split)
+upper0_stays t split = cond-false _ _ _ (and_left _ _ split)
 
 timer1_stays : (pins : ℕ) (t : Timers) → is_split t.tmod ≡ false → bit_of t.tcon 6 ≡ false → timer1_of pins t ≡ t
 timer1_stays pins t split run =
-    let gate = not (is_split t.tmod) && bit_of t.tmod 7 in
-    cond-false _ _ _ (
-    off (not (eqb (t.tmod / 16 % 4) 3)) _ (
-    ap (λ b. counts_of b gate (bit_of pins 3) (bit_of t.tmod 6) (falls_of t.pins pins 5)) (ap (λ b. b || bit_of t.tcon 6) split ∙ run)))
+    cond-false _ _ _ (and_left _ _ (and_right _ _ (ap (λ b. b || runs_of bits1 pins t) split ∙ and_left _ _ run)))
 
 stopped : (pins : ℕ) (t : Timers) → bit_of t.tcon 4 ≡ false → bit_of t.tcon 6 ≡ false → is_split t.tmod ≡ false → timers_of pins t ≡ t
 stopped pins t run0 run1 split =
@@ -48,17 +42,14 @@ down activation flag high fell f h =
 cleared : (tcon i : ℕ) → bit_of tcon i ≡ false → with_bit_of tcon i false ≡ tcon
 cleared tcon i h = ap (λ b. tcon - weight i * as_bit b + weight i * as_bit false) h ∙ omega arith
 
-external0_stays : (old new tcon : ℕ) → bit_of tcon 1 ≡ false → bit_of new 2 ≡ true → external0_of old new tcon ≡ tcon
-external0_stays old new tcon flag high =
-    ap (with_bit_of tcon 1) (down (bit_of tcon 0) (bit_of tcon 1) (bit_of new 2) (bit_of old 2) flag high) ∙ cleared tcon 1 flag
-
-external1_stays : (old new tcon : ℕ) → bit_of tcon 3 ≡ false → bit_of new 3 ≡ true → external1_of old new tcon ≡ tcon
-external1_stays old new tcon flag high =
-    ap (with_bit_of tcon 3) (down (bit_of tcon 2) (bit_of tcon 3) (bit_of new 3) (bit_of old 3) flag high) ∙ cleared tcon 3 flag
+external_stays : (b : ExternalBits) (old new tcon : ℕ) → bit_of tcon b.flag ≡ false → bit_of new b.pin ≡ true → external_tcon b old new tcon ≡ tcon
+external_stays b old new tcon flag high =
+    ap (with_bit_of tcon b.flag) (down (bit_of tcon b.activation) (bit_of tcon b.flag) (bit_of new b.pin) (bit_of old b.pin) flag high) ∙ cleared tcon b.flag flag
 
 calm : (pins : ℕ) (t : Timers) → bit_of t.tcon 1 ≡ false → bit_of t.tcon 3 ≡ false → bit_of pins 2 ≡ true → bit_of pins 3 ≡ true → flags_of pins t ≡ t
 calm pins t e0 e1 p0 p1 =
-    ap (λ x. with_tcon t (external1_of t.pins pins x)) (external0_stays t.pins pins t.tcon e0 p0) ∙ ap (with_tcon t) (external1_stays t.pins pins t.tcon e1 p1)
+    ap (λ x. with_tcon t (external1_of t.pins pins x)) (external_stays external_bits0 t.pins pins t.tcon e0 p0) ∙
+    ap (with_tcon t) (external_stays external_bits1 t.pins pins t.tcon e1 p1)
 
 -- nothing happens but that the pins are kept
 pub quiet_tick : (scon pins : ℕ) (t : Timers) → is_quiet scon pins t ≡ true → tick_of pins t ≡ with_pins t pins
@@ -82,3 +73,10 @@ quiet_sample scon pins t h =
     let s0 : bit_of scon 0 ≡ false = grind (arith, nat_tests) in
     let s1 : bit_of scon 1 ≡ false = grind (arith, nat_tests) in
     simp (e0, e1, f0, f1, s0, s1)
+
+none : (a b c d e : Bool) → a ≡ false → b ≡ false → c ≡ false → d ≡ false → e ≡ false → requests false false false false false ≡ requests a b c d e
+none a b c d e f g h i j = cc
+
+pub no_requests : (s : Sample) → s.external0 ≡ false → s.timer0 ≡ false → s.external1 ≡ false → s.timer1 ≡ false → s.serial ≡ false →
+    requests false false false false false ≡ s
+no_requests s = none s.external0 s.timer0 s.external1 s.timer1 s.serial

@@ -17,16 +17,16 @@ abbrev pub state_of : Machine → State
 state_of m = record { chip = m.core.chip; interrupts = m.interrupts; cycles = m.cycles }
 
 abbrev pub with_pins : Timers → ℕ → Timers
-with_pins t x = record { table = t.table; tcon = t.tcon; tmod = t.tmod; pins = x }
+with_pins t x = record t { pins = x }
 
 abbrev pub with_marks : Interrupts → Marks → Interrupts
-with_marks i x = record { marks = x; accepted = i.accepted; sample = i.sample }
+with_marks i x = record i { marks = x }
 
 abbrev pub with_accepted : Interrupts → Option Request → Interrupts
-with_accepted i x = record { marks = i.marks; accepted = x; sample = i.sample }
+with_accepted i x = record i { accepted = x }
 
 abbrev pub with_sample : Interrupts → Sample → Interrupts
-with_sample i x = record { marks = i.marks; accepted = i.accepted; sample = x }
+with_sample i x = record i { sample = x }
 
 abbrev pub with_interrupts : State → Interrupts → State
-with_interrupts s x = record { chip = s.chip; interrupts = x; cycles = s.cycles }
+with_interrupts s x = record s { interrupts = x }

@@ -4,7 +4,7 @@ use Rattle.outcome.specs.Outcome.{then}
 use Rattle.records.specs.declared.traces.Source.{Source}
 use Rattle.records.specs.declared.traces.Source.TheVariants.{External0, Timer0, External1, Timer1, Serial}
 use Rattle.records.specs.declared.traces.Marks.{Marks}
-use Rattle.arithmetic.specs.Bits.{bit_of, with_bit_of}
+use Rattle.arithmetic.specs.Bits.{with_bit_of}
 use Rattle.instructions.specs.Tables.{vector_of}
 use Rattle.core51.specs.declared.fault.Fault.{Fault}
 use Rattle.core51.specs.declared.state.Registers.{Registers}
@@ -15,6 +15,7 @@ use Rattle.cycles.specs.declared.poll.Level.{Level}
 use Rattle.cycles.specs.declared.poll.Level.TheVariants.{Low, High}
 use Rattle.cycles.specs.declared.poll.Request.{Request}
 use Rattle.cycles.specs.declared.machine.Interrupts.{Interrupts}
+use Rattle.cycles.specs.Flags.{external_bits0, external_bits1, cleared_of}
 use Rattle.cycles.specs.State.{State, with_marks, with_accepted, with_interrupts}
 
 abbrev pub marks_of : Bool → Bool → Marks
@@ -29,11 +30,11 @@ marked_of High m = marks_of m.low true
 abbrev pub returned_of : Marks → Marks
 returned_of m = cond m.high (marks_of m.low false) (marks_of false m.high)
 
--- TCON when a source is called: TF0, bit 5, or TF1, bit 7, is cleared, and IE0 or IE1, bits 1 and 3, if its activation bit is 1
+-- TCON when a source is called: TF0, bit 5, or TF1, bit 7, is cleared, and IE0 or IE1 if its activation bit is 1
 abbrev pub acknowledged_of : Source → ℕ → ℕ
-acknowledged_of External0 tcon = cond (bit_of tcon 0) (with_bit_of tcon 1 false) tcon
+acknowledged_of External0 tcon = cleared_of external_bits0 tcon
 acknowledged_of Timer0 tcon = with_bit_of tcon 5 false
-acknowledged_of External1 tcon = cond (bit_of tcon 2) (with_bit_of tcon 3 false) tcon
+acknowledged_of External1 tcon = cleared_of external_bits1 tcon
 acknowledged_of Timer1 tcon = with_bit_of tcon 7 false
 acknowledged_of Serial tcon = tcon
 

@@ -1,13 +1,13 @@
 // One machine cycle.
 ghost use Rattle.std.specs.Prelude.{◌≡◌, true};
 ghost use Rattle.cycles.specs.State.{state_of};
-ghost use Rattle.cycles.specs.Cycle.{tick_of, is_quiet, ticked_of, polled_of, cycle_steps, cycle_of, cycles_of};
+ghost use Rattle.cycles.specs.Cycle.{tick_of, is_quiet, ticked_of, polled_of, cycle_of, cycles_of};
 
 use crate::flags::raise_flags;
 use crate::machine::Machine;
 use crate::poll::poll;
-use crate::sample::{NO_REQUEST, take_sample};
-use crate::timers::count_timers;
+use crate::sample::{Sample, take_sample};
+use crate::timers::{count_timers, is_split};
 use arithmetic::bits::bit;
 use boards::board::Board;
 use core51::state::Timers;
@@ -32,7 +32,7 @@ fn is_quiet(timers: &Timers, scon: u8, pins: u8) -> bool
         && !bit(tcon, 5)
         && !bit(tcon, 6)
         && !bit(tcon, 7)
-        && timers.tmod % 4 != 3
+        && !is_split(timers.tmod)
         && bit(pins, 2)
         && bit(pins, 3)
         && !bit(scon, 0)
@@ -45,13 +45,12 @@ impl Machine {
         ensures { state_of self.new ≡ polled_of (state_of self.old) }
     {
         let control = &self.core.chip.control;
-        let accepted = poll(
+        self.interrupts.accepted = poll(
             self.interrupts.sample,
             control.ie,
             control.ip,
             self.interrupts.marks,
         );
-        self.interrupts.accepted = accepted;
     }
 
     // A cycle in which nothing can change but the pins.
@@ -60,18 +59,16 @@ impl Machine {
         ensures { state_of self.new ≡ ticked_of pins (state_of self.old) }
     {
         self.core.chip.timers.pins = pins;
-        self.interrupts.sample = NO_REQUEST;
+        self.interrupts.sample = Sample::default();
         self.cycles = self.cycles.wrapping_add(1);
     }
 
     fn work(&mut self, pins: u8)
         ensures { state_of self.new ≡ ticked_of pins (state_of self.old) }
     {
-        tick(&mut self.core.chip.timers, pins);
-        self.interrupts.sample = take_sample(
-            self.core.chip.timers.tcon,
-            self.core.chip.serial.scon,
-        );
+        let chip = &mut self.core.chip;
+        tick(&mut chip.timers, pins);
+        self.interrupts.sample = take_sample(chip.timers.tcon, chip.serial.scon);
         self.cycles = self.cycles.wrapping_add(1);
     }
 
@@ -86,8 +83,9 @@ impl Machine {
         }
     }
 
-    fn cycle_steps<D: Board>(&mut self, board: &mut D, polls: bool)
-        ensures { (state_of self.new, D.pins board.new) ≡ cycle_steps D.next polls (state_of self.old, D.pins board.old) }
+    // One machine cycle; the last cycle of a step polls, if the step does.
+    pub fn cycle<D: Board>(&mut self, board: &mut D, polls: bool)
+        ensures { (state_of self.new, D.pins board.new) ≡ cycle_of D.next polls (state_of self.old, D.pins board.old) }
     {
         if polls {
             self.poll();
@@ -95,13 +93,6 @@ impl Machine {
         board.tick();
         let pins = self.core.chip.registers.latches[3] & board.level(3);
         self.tick(pins);
-    }
-
-    // One machine cycle; the last cycle of a step polls, if the step does.
-    pub fn cycle<D: Board>(&mut self, board: &mut D, polls: bool)
-        ensures { (state_of self.new, D.pins board.new) ≡ cycle_of D.next polls (state_of self.old, D.pins board.old) }
-    {
-        self.cycle_steps(board, polls);
     }
 
     // The machine cycles of a step, at least one.

@@ -1,38 +1,68 @@
 // The external interrupt flags in one machine cycle.
 ghost use Rattle.std.specs.Prelude.{◌≡◌};
-ghost use Rattle.cycles.specs.Flags.{external_of, external0_of, external1_of, flags_of};
+ghost use Rattle.cycles.specs.Flags.{renewed_of, raised_of, cleared_of, flags_of};
 
 use crate::timers::falls;
 use arithmetic::bits::{bit, with_bit};
 use core51::state::Timers;
 
-// An external flag after this cycle, by its activation bit, itself, and its pin.
-fn external(activation: bool, flag: bool, low: bool, fall: bool) -> bool
-    ensures { result ≡ external_of activation flag low fall }
-{
-    if activation { flag || fall } else { low }
+// Where the bits of an external interrupt lie: its activation bit and its flag in TCON, and its pin in port 3.
+pub(crate) struct ExternalBits {
+    activation: u8,
+    flag: u8,
+    pin: u8,
 }
 
-// IE0 in TCON.
-fn external0(old: u8, new: u8, tcon: u8) -> u8
-    ensures { result ≡ external0_of old new tcon }
-{
-    let flag = external(bit(tcon, 0), bit(tcon, 1), !bit(new, 2), falls(old, new, 2));
-    with_bit(tcon, 1, flag)
-}
+// IT0 and IE0.
+pub(crate) const EXTERNAL0: ExternalBits = ExternalBits {
+    activation: 0,
+    flag: 1,
+    pin: 2,
+};
 
-// IE1 in TCON.
-fn external1(old: u8, new: u8, tcon: u8) -> u8
-    ensures { result ≡ external1_of old new tcon }
-{
-    let flag = external(bit(tcon, 2), bit(tcon, 3), !bit(new, 3), falls(old, new, 3));
-    with_bit(tcon, 3, flag)
+// IT1 and IE1.
+pub(crate) const EXTERNAL1: ExternalBits = ExternalBits {
+    activation: 2,
+    flag: 3,
+    pin: 3,
+};
+
+impl ExternalBits {
+    // The flag after this cycle: a fall of the pin sets it, or without its activation bit it tells that the pin is low.
+    fn renewed(&self, timers: &Timers, pins: u8) -> bool
+        ensures { result ≡ renewed_of self.now timers.now.pins pins timers.now.tcon }
+    {
+        if bit(timers.tcon, self.activation) {
+            bit(timers.tcon, self.flag) || falls(timers.pins, pins, self.pin)
+        } else {
+            !bit(pins, self.pin)
+        }
+    }
+
+    // The flag in TCON at the pins of port 3.
+    fn raise(&self, timers: &mut Timers, pins: u8)
+        ensures { timers.new ≡ raised_of self.now pins timers.old }
+    {
+        let flag = self.renewed(timers, pins);
+        timers.tcon = with_bit(timers.tcon, self.flag, flag);
+    }
+
+    // TCON when the interrupt is called: the flag is cleared if the activation bit is 1.
+    pub(crate) fn cleared(&self, tcon: u8) -> u8
+        ensures { result ≡ cleared_of self.now tcon }
+    {
+        if bit(tcon, self.activation) {
+            with_bit(tcon, self.flag, false)
+        } else {
+            tcon
+        }
+    }
 }
 
 // Both external flags, at the pins of port 3.
 pub(crate) fn raise_flags(timers: &mut Timers, pins: u8)
     ensures { timers.new ≡ flags_of pins timers.old }
 {
-    let tcon = external0(timers.pins, pins, timers.tcon);
-    timers.tcon = external1(timers.pins, pins, tcon);
+    EXTERNAL0.raise(timers, pins);
+    EXTERNAL1.raise(timers, pins);
 }

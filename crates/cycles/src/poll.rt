@@ -42,19 +42,16 @@ fn first(asking: Sample) -> Option<Source>
 fn taken(asking: Sample, ip: u8) -> Option<Request>
     ensures { result ≡ taken_of asking ip }
 {
-    match first(asking.masked(ip)) {
-        Some(source) => Some(Request {
+    let high = first(asking.masked(ip)).map(|source| Request {
+        source,
+        level: Level::High,
+    });
+    high.or_else(|| {
+        first(asking).map(|source| Request {
             source,
-            level: Level::High,
-        }),
-        None => match first(asking) {
-            Some(source) => Some(Request {
-                source,
-                level: Level::Low,
-            }),
-            None => None,
-        },
-    }
+            level: Level::Low,
+        })
+    })
 }
 
 impl Level {
@@ -76,14 +73,5 @@ pub fn poll(sample: Sample, ie: u8, ip: u8, marks: Marks) -> Option<Request>
     if !bit(ie, 7) {
         return None;
     }
-    match taken(sample.masked(ie), ip) {
-        Some(request) => {
-            if request.level.is_barred(marks) {
-                None
-            } else {
-                Some(request)
-            }
-        }
-        None => None,
-    }
+    taken(sample.masked(ie), ip).filter(|request| !request.level.is_barred(marks))
 }

@@ -1,32 +1,17 @@
 // The sample of the five interrupt requests.
-ghost use Rattle.std.specs.Prelude.{◌≡◌, ◌&&◌};
+ghost use Rattle.std.specs.Prelude.{◌≡◌};
 ghost use Rattle.cycles.specs.Sample.{sample_of, masked_of};
 
 use arithmetic::bits::bit;
 
-// Which of the five sources request.
-#[derive(Clone, Copy)]
+// Which of the five sources request; by default none.
+#[derive(Clone, Copy, Default)]
 pub struct Sample {
     pub external0: bool,
     pub timer0: bool,
     pub external1: bool,
     pub timer1: bool,
     pub serial: bool,
-}
-
-// No source requests.
-pub(crate) const NO_REQUEST: Sample = Sample {
-    external0: false,
-    timer0: false,
-    external1: false,
-    timer1: false,
-    serial: false,
-};
-
-fn both(a: bool, b: bool) -> bool
-    ensures { result ≡ (a && b) }
-{
-    a && b
 }
 
 // The five flags in TCON and SCON, whatever is enabled.
@@ -48,11 +33,11 @@ impl Sample {
         ensures { result ≡ masked_of self byte }
     {
         Sample {
-            external0: both(self.external0, bit(byte, 0)),
-            timer0: both(self.timer0, bit(byte, 1)),
-            external1: both(self.external1, bit(byte, 2)),
-            timer1: both(self.timer1, bit(byte, 3)),
-            serial: both(self.serial, bit(byte, 4)),
+            external0: self.external0 & bit(byte, 0),
+            timer0: self.timer0 & bit(byte, 1),
+            external1: self.external1 & bit(byte, 2),
+            timer1: self.timer1 & bit(byte, 3),
+            serial: self.serial & bit(byte, 4),
         }
     }
 }

@@ -2,11 +2,12 @@
 ghost use Rattle.std.specs.Prelude.{◌≡◌};
 ghost use Rattle.outcome.specs.Outcome.{kept};
 ghost use Rattle.cycles.specs.State.{state_of};
-ghost use Rattle.cycles.specs.Vector.{marked_of, returned_of, acknowledged_of, enter_of, vector_steps, vector_call_of, ended_of};
+ghost use Rattle.cycles.specs.Vector.{marked_of, returned_of, acknowledged_of, enter_of, vector_call_of, ended_of};
 
+use crate::flags::{EXTERNAL0, EXTERNAL1};
 use crate::machine::Machine;
 use crate::poll::{Level, Request};
-use arithmetic::bits::{bit, with_bit};
+use arithmetic::bits::with_bit;
 use core51::fault::Fault;
 use core51::state::Registers;
 use instructions::tables::vector;
@@ -17,13 +18,10 @@ fn marked(level: Level, marks: Marks) -> Marks
     ensures { result ≡ marked_of level marks }
 {
     match level {
-        Level::Low => Marks {
-            low: true,
-            high: marks.high,
-        },
+        Level::Low => Marks { low: true, ..marks },
         Level::High => Marks {
-            low: marks.low,
             high: true,
+            ..marks
         },
     }
 }
@@ -34,13 +32,13 @@ fn returned(marks: Marks) -> Marks
 {
     if marks.high {
         Marks {
-            low: marks.low,
             high: false,
+            ..marks
         }
     } else {
         Marks {
             low: false,
-            high: marks.high,
+            ..marks
         }
     }
 }
@@ -50,21 +48,9 @@ fn acknowledged(source: Source, tcon: u8) -> u8
     ensures { result ≡ acknowledged_of source tcon }
 {
     match source {
-        Source::External0 => {
-            if bit(tcon, 0) {
-                with_bit(tcon, 1, false)
-            } else {
-                tcon
-            }
-        }
+        Source::External0 => EXTERNAL0.cleared(tcon),
         Source::Timer0 => with_bit(tcon, 5, false),
-        Source::External1 => {
-            if bit(tcon, 2) {
-                with_bit(tcon, 3, false)
-            } else {
-                tcon
-            }
-        }
+        Source::External1 => EXTERNAL1.cleared(tcon),
         Source::Timer1 => with_bit(tcon, 7, false),
         Source::Serial => tcon,
     }
@@ -80,22 +66,16 @@ fn enter(registers: &mut Registers, address: u16) -> Result<(), Fault>
 }
 
 impl Machine {
-    fn call_steps(&mut self, request: Request) -> Result<(), Fault>
-        ensures { (result, state_of self.new) ≡ kept (state_of self.old) (vector_steps request (state_of self.old)) }
-    {
-        enter(&mut self.core.chip.registers, vector(request.source))?;
-        let tcon = self.core.chip.timers.tcon;
-        self.core.chip.timers.tcon = acknowledged(request.source, tcon);
-        self.interrupts.marks = marked(request.level, self.interrupts.marks);
-        self.interrupts.accepted = None;
-        Ok(())
-    }
-
     // The vector call of an accepted request, before its cycles.
     pub fn vector_call(&mut self, request: Request) -> Result<(), Fault>
         ensures { (result, state_of self.new) ≡ kept (state_of self.old) (vector_call_of request (state_of self.old)) }
     {
-        self.call_steps(request)
+        enter(&mut self.core.chip.registers, vector(request.source))?;
+        let timers = &mut self.core.chip.timers;
+        timers.tcon = acknowledged(request.source, timers.tcon);
+        self.interrupts.marks = marked(request.level, self.interrupts.marks);
+        self.interrupts.accepted = None;
+        Ok(())
     }
 
     // What RETI does beside its return: it ends the service in progress that has the highest level.

@@ -1,7 +1,7 @@
 -- The small machine keeps the laws, and a request waits on it as long as they let it.
 use Rattle.std.specs.Prelude.{◌≡◌, ℕ, zero, suc, ◌+◌, ◌*◌, ◌<◌, ◌≤◌, Bool, true, false, cond, List, [], ◌∷◌, length, is_some, Some, None, Option, ◌==◌, ◌≢◌, refl}
 use Rattle.std.proofs.Common.{sym, ap, append-nil, arith}
-use Rattle.std.proofs.lemmas.Bool.{ne_eqb, eqb-true}
+use Rattle.std.proofs.lemmas.Bool.{cond_both, ne_eqb, eqb-true}
 use Rattle.history.specs.declared.small.Small.{Small}
 use Rattle.history.specs.Events.{Kind, control, call, Moment, cycle, moments}
 use Rattle.history.specs.Machine.{Call, StepOnce, history}
@@ -14,18 +14,11 @@ use Rattle.history.specs.Marks.{contra, some_none}
 use Rattle.history.specs.PollLemmas.{poll_keeps}
 
 only_false : (i : ℕ) → only false i ≡ false
-only_false i = go (i == 1)
-  where
-    go : (b : Bool) → cond b false false ≡ false
-    go true = refl
-    go false = refl
+only_false i = cond_both (i == 1) false false (λ b. b ≡ false) (λ e. refl) (λ e. refl)
 
 only_one : (b : Bool) (s : ℕ) → only b s ≡ true → (0 < s) × (s ≤ 1)
-only_one b s h = go (s == 1) refl h
-  where
-    go : (t : Bool) → (s == 1) ≡ t → cond t b false ≡ true → (0 < s) × (s ≤ 1)
-    go true e f = let g = eqb-true s 1 e in (omega arith, omega arith)
-    go false e f = contra f refl
+only_one b s =
+    cond_both (s == 1) b false (λ x. x ≡ true → (0 < s) × (s ≤ 1)) (λ e f. let g = eqb-true s 1 e in (omega arith, omega arith)) (λ e f. contra f refl)
 
 the_level : (o : Option ℕ) → cond {A = Option ℕ} (is_some o) (Some 1) None ≡ level_of (λ s. 1) o
 the_level None = refl

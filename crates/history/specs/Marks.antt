@@ -1,16 +1,16 @@
 -- What a step's kind tells of the marks, and of the request that was accepted before it.
 use Rattle.std.specs.Prelude.{◌≡◌, ℕ, Bool, true, false, ◌≢◌, Some, None, Option, refl}
-use Rattle.std.proofs.Common.{sym, ap, subst, ◌∙◌, arith}
+use Rattle.std.proofs.Common.{sym, ap, subst, ◌∙◌}
 use Rattle.std.proofs.Math.Decide.{ℕ_discrete}
 use Rattle.history.specs.Events.{Kind, plain, control, reti, call}
 use Rattle.history.specs.Promise.{is_instruction}
 use Rattle.history.specs.Laws.{called, Marked}
 
 pub contra : {A : Type 0} {b : Bool} → b ≡ true → b ≡ false → A
-contra e f = let z : ◌≡◌ {A = ℕ} 0 1 = cc in absurd (omega arith)
+contra e f = cc
 
 pub some_none : {A : Type 0} {o : Option ℕ} {n : ℕ} → o ≡ Some n → o ≡ None → A
-some_none e f = let z : ◌≡◌ {A = ℕ} 0 1 = cc in absurd (omega arith)
+some_none e f = cc
 
 -- where a request is accepted, the step is its call, and else an instruction
 pub is_call : (k : Kind) (ℓ : ℕ) → called k ≡ Some ℓ → k ≡ call ℓ

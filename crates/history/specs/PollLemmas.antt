@@ -2,7 +2,7 @@
 use Rattle.std.specs.Prelude.{◌≡◌, ℕ, zero, suc, ◌<◌, ◌≤◌, Bool, true, false, cond, Some, None, Option, nat_lt, refl}
 use Rattle.std.proofs.Common.{sym, ap, ◌∙◌, arith}
 use Rattle.std.proofs.Math.Decide.{ℕ_discrete}
-use Rattle.std.proofs.lemmas.Bool.{ltb-true, ltb-false, lt-ltb, le-ltb}
+use Rattle.std.proofs.lemmas.Bool.{cond_both, ltb-true, ltb-false, lt-ltb, le-ltb}
 use Rattle.history.specs.Laws.{View}
 use Rattle.history.specs.Cycles.{PollLaw}
 use Rattle.history.specs.Poll.{over, taken, barred, unless_barred, poll_of, level_of}
@@ -15,22 +15,15 @@ module _ (asks : ℕ → Bool) (level : ℕ → ℕ) where
 
   over_self : (s : ℕ) (r : Option ℕ) → Taken (level s) (over level s r)
   over_self s None = (s, refl, omega arith)
-  over_self s (Some t) = go (nat_lt (level t) (level s)) refl
-    where
-      go : (b : Bool) → nat_lt (level t) (level s) ≡ b → Taken (level s) (cond b (Some s) (Some t))
-      go true e = (s, refl, omega arith)
-      go false e = (t, refl, ltb-false (level t) (level s) e)
+  over_self s (Some t) =
+      cond_both (nat_lt (level t) (level s)) (Some s) (Some t) (Taken (level s)) (λ e. (s, refl, omega arith)) (λ e. (t, refl, ltb-false (level t) (level s) e))
 
   over_other : (i s : ℕ) (r : Option ℕ) → Taken i r → Taken i (over level s r)
   over_other i s None h = some_none h.1 refl
-  over_other i s (Some t) h = go (nat_lt (level t) (level s)) refl
-    where
-      below : i ≤ level t
-      below = let e : t ≡ h.0 = cc in rw e h.2
-
-      go : (b : Bool) → nat_lt (level t) (level s) ≡ b → Taken i (cond b (Some s) (Some t))
-      go true e = (s, refl, omega (arith, below, ltb-true (level t) (level s) e))
-      go false e = (t, refl, below)
+  over_other i s (Some t) h =
+      let same : t ≡ h.0 = cc in
+      let below : i ≤ level t = rw same h.2 in
+      cond_both (nat_lt (level t) (level s)) (Some s) (Some t) (Taken i) (λ e. (s, refl, omega (arith, below, ltb-true (level t) (level s) e))) (λ e. (t, refl, below))
 
   takes : (n s : ℕ) → asks s ≡ true → 0 < s → s ≤ n → Taken (level s) (taken asks level n)
   takes zero s a p q = absurd (omega arith)
@@ -67,11 +60,11 @@ module _ (level : ℕ → ℕ) (serving : ℕ → Bool) (ℓ : ℕ) where
 
   bars_served : (o : Option ℕ) → ((s : ℕ) → level s ≤ ℓ) → (i : ℕ) → level_of level (unless_barred level serving (suc ℓ) o) ≡ Some i → serving i ≡ false
   bars_served None h i e = some_none e refl
-  bars_served (Some s) h i e = go (barred serving (suc ℓ) (level s)) refl e
-    where
-      go : (b : Bool) → barred serving (suc ℓ) (level s) ≡ b → level_of level (cond b None (Some s)) ≡ Some i → serving i ≡ false
-      go true f g = some_none g refl
-      go false f g = let q : level s ≡ i = cc in rw (← q) (not_served serving (suc ℓ) (level s) (omega (arith, h s)) f)
+  bars_served (Some s) h i e =
+      cond_both (barred serving (suc ℓ) (level s)) None (Some s) (λ o. level_of level o ≡ Some i → serving i ≡ false)
+      (λ f g. some_none g refl)
+      (λ f g. let q : level s ≡ i = cc in rw (← q) (not_served serving (suc ℓ) (level s) (omega (arith, h s)) f))
+      e
 
 -- The sources are 1 to n, and the levels 0 to ℓ.
 pub poll_keeps : (n ℓ : ℕ) (old new : View) → new.pending ≡ level_of old.shown.level (poll_of n (suc ℓ) old.sampled old.shown) →

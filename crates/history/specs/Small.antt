@@ -12,17 +12,17 @@ use Rattle.history.specs.Cycles.{does, Parts, machine, Quiet, PartsLaw}
 
 -- A reset leaves the program and the line.
 abbrev pub restarted : Small → Small
-restarted w = record { controls = w.controls; until = w.until; sample = false; enabled = false; accepted = false; serving = false }
+restarted w = record w { sample = false; enabled = false; accepted = false; serving = false }
 
 -- The next instruction: one that writes IE, if one is left, or a long one.
 abbrev pub instruction : ℕ → Small → Work × Small
 instruction zero w = (Long, w)
-instruction (suc n) w = (Control, record { controls = n; until = w.until; sample = w.sample; enabled = true; accepted = false; serving = w.serving })
+instruction (suc n) w = (Control, record w { controls = n; enabled = true; accepted = false })
 
 -- What a step does before its cycles: the accepted request is called, which sets its mark, or an instruction is made.
 abbrev pub begun : Small → Work × Small
 begun w = cond w.accepted
-    (Calls, record { controls = w.controls; until = w.until; sample = w.sample; enabled = w.enabled; accepted = false; serving = true })
+    (Calls, record w { accepted = false; serving = true })
     (instruction w.controls w)
 
 -- The one source is number 1, and it is at level 1.
@@ -40,18 +40,11 @@ view w = record {
 
 -- The poll, with one source and the levels 0 and 1.
 abbrev pub polled : Small → Small
-polled w = record {
-  controls = w.controls;
-  until = w.until;
-  sample = w.sample;
-  enabled = w.enabled;
-  accepted = is_some (poll_of 1 2 (view w).sampled (view w).shown);
-  serving = w.serving;
-}
+polled w = record w { accepted = is_some (poll_of 1 2 (view w).sampled (view w).shown) }
 
 -- A cycle brings the line nearer, and samples it.
 abbrev pub ticked : Small → Small
-ticked w = record { controls = w.controls; until = w.until - 1; sample = (w.until - 1 == 0); enabled = w.enabled; accepted = w.accepted; serving = w.serving }
+ticked w = record w { until = w.until - 1; sample = (w.until - 1 == 0) }
 
 -- The kind of a step.
 abbrev pub kind_of : Work → Kind

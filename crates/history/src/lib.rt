@@ -34,7 +34,8 @@ pub fn steps_keep_promise<T: Stepped>(_machine: &T)
     ensures { Kept T.Stepped.machine T.Stepped.view T.Stepped.highest T.Stepped.longest T.Stepped.unpolled T.Stepped.Sound }
 {}
 
-// A machine whose step changes the state once and then runs machine cycles, and whose parts keep their laws.
+// A machine whose step changes the state once and then runs machine cycles, and whose parts keep their laws. No instance of Stepped, since
+// its laws are others: those of steps are proved from them.
 pub trait Cycled {
     ghost State: { Type 0 };
 

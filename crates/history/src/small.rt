@@ -129,7 +129,7 @@ mod tests {
 
     fn new(controls: u32) -> Small {
         Small {
-            controls: controls,
+            controls,
             until: 2,
             sample: false,
             enabled: false,
