@@ -1,5 +1,6 @@
 -- What a step does before its machine cycles.
 use Rattle.std.proofs.Common.{◌≡◌, ℕ, zero, suc, ◌≤◌, Bool, true, false, cond, Some, None, Ok, Err, Option, Result, sym, refl, ap, ◌∙◌, arith}
+use Rattle.std.proofs.lemmas.Bool.{cond_both}
 use Rattle.records.specs.declared.traces.Marks.{Marks}
 use Rattle.boards.specs.Board.{Pins}
 use Rattle.buses.specs.Memory.{Memory}
@@ -9,11 +10,11 @@ use Rattle.core51.specs.declared.fault.Fault.TheVariants.{TimeOver}
 use Rattle.core51.specs.declared.state.Chip.{Chip}
 use Rattle.core51.specs.declared.state.Control.{Control}
 use Rattle.execute51.specs.declared.external.Access.{Access}
-use Rattle.execute51.specs.declared.external.Access.TheVariants.{Nothing, Read, Write}
+use Rattle.execute51.specs.declared.external.Access.TheVariants.{Read, Write}
 use Rattle.execute51.specs.declared.told.Told.{Told}
 use Rattle.execute51.specs.Execute.{execute_of}
 use Rattle.execute51.specs.Laws.{Accessed, Shown}
-use Rattle.execute51.proofs.Shows.{All, all_then, any, all_either, ShownAt, execute_told}
+use Rattle.execute51.proofs.Shows.{All, all_then, any, ShownAt, execute_told}
 use Rattle.cycles.specs.declared.poll.Level.{Level}
 use Rattle.cycles.specs.declared.poll.Level.TheVariants.{Low, High}
 use Rattle.cycles.specs.declared.poll.Request.{Request}
@@ -33,10 +34,10 @@ use Rattle.history51.proofs.Labels.{Labelled, call_labelled, instruction_labelle
 use Rattle.history51.specs.Life.{kind_of, as_access, access_of, decided}
 
 -- the access of the law does what the access of the instruction does
-accessed : (a : Access) (old new : ℕ → Option ℕ) → Accessed a old new → LawAccessed (as_access a) old new
-accessed Nothing old new h = h
-accessed (Read x b) old new h = h
-accessed (Write x b) old new h = h
+accessed : (a : Option Access) (old new : ℕ → Option ℕ) → Accessed a old new → LawAccessed (as_access a) old new
+accessed None old new h = h
+accessed (Some (Read x b)) old new h = h
+accessed (Some (Write x b)) old new h = h
 
 -- a vector call sets the mark of its level
 call_marks : (l : Level) (m : Marks) → Marked (call (level_number l)) (serving_of m) (serving_of (marked_of l m))
@@ -133,7 +134,7 @@ module _ {S : Type 0} (w : World S) where
   pub begin_changes : All Begun (begin_of w)
   unfolding begin_of act_of
   begin_changes =
-      all_either Begun (is_late w.state.cycles) (Err TimeOver) _ (λ e. tt)
+      cond_both (is_late w.state.cycles) (Err TimeOver) _ (All Begun) (λ e. tt)
       (λ e. all_then Acted Begun (act_of w.pins w.state w.memory) _ (act_changes w.state.interrupts.accepted refl)
       (λ x h. h (driven_to (port_of x.0) w.pins)))
 

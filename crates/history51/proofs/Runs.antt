@@ -44,7 +44,7 @@ module _ {S : Type 0} (next : Pins S → Pins S) where
   unfolding turn_of
   stops n i s e = rw e (record { state = refl; steps = omega arith })
 
-  goes : (n i : ℕ) (s : Session S) (l : Made (World S)) → is_full s ≡ false → Same i (go_on (run_from next n) i (stepped i s (step_of next s.at))) l
+  goes : (n i : ℕ) (s : Session S) (l : Made (World S)) → is_full s ≡ false → Same i (go_on (run_from next n) i s (stepped i s (step_of next s.at))) l
       → Same i (run_from next (suc n) i s) l
   unfolding turn_of
   goes n i s l e h = rw e h
@@ -54,7 +54,7 @@ module _ {S : Type 0} (next : Pins S → Pins S) where
 
   module _ (n : ℕ) (more : Runs n) (i : ℕ) (s : Session S) (t p : ℕ) (e : length s.traces.free ≡ suc t) (f : length s.ports.free ≡ suc p) where
     turned : (o : Outcome (World S)) (r : Result (Done × World S) Fault) → Agree s.at o (kept s.at r).0 (kept s.at r).1
-        → Same i (go_on (run_from next n) i (stepped i s r)) (follow s.at o (λ x v. law_run n t (cond x.port p (suc p)) v))
+        → Same i (go_on (run_from next n) i s (stepped i s r)) (follow s.at o (λ x v. law_run n t (cond x.port p (suc p)) v))
     turned refused (Ok y) h = absurd h
     turned refused (Err d) h = record { state = refl; steps = omega arith }
     turned (accepted x v) (Err d) h = absurd h

@@ -1,9 +1,9 @@
 -- The machine as the law of whole histories has it, and the promise of its whole life.
-use Rattle.std.specs.Prelude.{◌+◌, ◌*◌, cond, List, is_some, Ok, Err, Result}
+use Rattle.std.specs.Prelude.{◌+◌, ◌*◌, cond, List, is_some, Some, None, Ok, Err, Option, Result}
 use Rattle.boards.specs.Board.{Pins}
 use Rattle.core51.specs.declared.fault.Fault.{Fault}
 use Rattle.execute51.specs.declared.external.Access.{Access as ExecutedAccess}
-use Rattle.execute51.specs.declared.external.Access.TheVariants.{Nothing, Read, Write}
+use Rattle.execute51.specs.declared.external.Access.TheVariants.{Read, Write}
 use Rattle.cycles.specs.Cycle.{polled_of, run_of}
 use Rattle.step51.specs.declared.action.Action.{Action}
 use Rattle.step51.specs.declared.action.Action.TheVariants.{Called, Executed}
@@ -23,10 +23,10 @@ kind_of (Called q) = call (level_number q.level)
 kind_of (Executed t) = cond t.polls plain (cond t.is_reti reti control)
 
 -- the access of MOVX
-abbrev pub as_access : ExecutedAccess → Access
-as_access Nothing = no_access
-as_access (Read address byte) = read address byte
-as_access (Write address byte) = write address byte
+abbrev pub as_access : Option ExecutedAccess → Access
+as_access None = no_access
+as_access (Some (Read address byte)) = read address byte
+as_access (Some (Write address byte)) = write address byte
 
 -- only an instruction has one
 abbrev pub access_of : Action → Access

@@ -27,10 +27,6 @@ use Rattle.step51.specs.Run.{Session, session, run_of}
 abbrev pub front : List ℕ → List ℕ
 front file = take 4096 file
 
--- the first records of a memory, as many as were counted; a refusal is passed on
-abbrev pub counted : {R : Type 0} → Result ℕ Refusal → List R → Result (List R) Refusal
-counted r places = then r (λ n. Ok (take n places))
-
 -- logs of 64 places, with whatever the places hold
 abbrev pub trace_log : Entries TraceRecord
 trace_log = empty (replicate 64 (record { kind = Instruction 0; pc = 0; cycles = One; marks = record { low = false; high = false }; accumulator = 0 }))

@@ -1,11 +1,12 @@
 // The call run.
 ghost use Rattle.std.specs.Prelude.{◌≡◌};
+ghost use Rattle.outcome.specs.Outcome.{kept};
 ghost use Rattle.logs.specs.Log.{held};
 ghost use Rattle.step51.specs.World.{world};
 ghost use Rattle.history51.specs.Calls.{Lives};
 ghost use Rattle.history51.specs.Agrees.{RunLives};
 ghost use Rattle.panel51.specs.Panel.{panel_state};
-ghost use Rattle.step51.specs.Run.{session, port_named, noted, turn_steps, turn_of, run_of};
+ghost use Rattle.step51.specs.Run.{session, noted, turn_of, run_of};
 
 use crate::panel::Panel51;
 use boards::board::Board;
@@ -13,71 +14,28 @@ use buses::Bus;
 use execute51::told::PortWrite;
 use logs::log::Log;
 use records::port_writes::PortRecord;
-use records::ports::Port;
-use records::refusals::Refusal;
 use records::traces::TraceRecord;
+use step51::stop::Stop;
 
 // The most steps of one run.
 const MOST_STEPS: u32 = 65535;
-
-// Refused: a run above the most steps.
-const TOO_MANY_STEPS: u8 = 6;
-
-// The port that a port write names by its number, 0 to 3.
-fn port_named(n: u8) -> Port
-    ensures { result ≡ port_named n }
-{
-    match n {
-        0 => Port::P0,
-        1 => Port::P1,
-        2 => Port::P2,
-        _ => Port::P3,
-    }
-}
 
 // Enters the port write of step i, if there is one.
 fn note(ports: &mut Log<'_, PortRecord>, i: u32, write: Option<PortWrite>)
     ensures value { held ports.new ≡ noted i write (held ports.old) }
     ensures lent { ports.new.places.ghost_name ≡ ports.old.places.ghost_name }
 {
-    match write {
-        Some(write) => {
-            let _ = ports.append(PortRecord {
-                port: port_named(write.port),
-                byte: write.byte,
-                step: (i % 65536) as u16,
-            });
-        }
-        None => {}
+    if let Some(PortWrite { port, byte }) = write {
+        let _ = ports.append(PortRecord {
+            port,
+            byte,
+            step: (i % 65536) as u16,
+        });
     }
 }
 
 impl Panel51 {
-    fn turn_steps<B: Bus, D: Board>(
-        &mut self,
-        bus: &mut B,
-        board: &mut D,
-        i: u32,
-        traces: &mut Log<'_, TraceRecord>,
-        ports: &mut Log<'_, PortRecord>,
-    ) -> Option<u8>
-        ensures value { (result, session (world (panel_state self.new) (B.memory bus.new) (D.pins board.new)) (held traces.new) (held ports.new)) ≡ turn_steps D.next i (session (world (panel_state self.old) (B.memory bus.old) (D.pins board.old)) (held traces.old) (held ports.old)) }
-        ensures lent { (traces.new.places.ghost_name ≡ traces.old.places.ghost_name) × (ports.new.places.ghost_name ≡ ports.old.places.ghost_name) }
-    {
-        if traces.is_full() || ports.is_full() {
-            return Some(Refusal::LogFull.number());
-        }
-        match self.step(bus, board) {
-            Ok((trace, write)) => {
-                let _ = traces.append(trace);
-                note(ports, i, write);
-                None
-            }
-            Err(fault) => Some(fault.number()),
-        }
-    }
-
-    // One step entered in the logs, or the number that stops the run.
+    // One step entered in the logs, or why the run stops before it.
     fn turn<B: Bus, D: Board>(
         &mut self,
         bus: &mut B,
@@ -85,11 +43,17 @@ impl Panel51 {
         i: u32,
         traces: &mut Log<'_, TraceRecord>,
         ports: &mut Log<'_, PortRecord>,
-    ) -> Option<u8>
-        ensures value { (result, session (world (panel_state self.new) (B.memory bus.new) (D.pins board.new)) (held traces.new) (held ports.new)) ≡ turn_of D.next i (session (world (panel_state self.old) (B.memory bus.old) (D.pins board.old)) (held traces.old) (held ports.old)) }
+    ) -> Result<(), Stop>
+        ensures value { (result, session (world (panel_state self.new) (B.memory bus.new) (D.pins board.new)) (held traces.new) (held ports.new)) ≡ kept (session (world (panel_state self.old) (B.memory bus.old) (D.pins board.old)) (held traces.old) (held ports.old)) (turn_of D.next i (session (world (panel_state self.old) (B.memory bus.old) (D.pins board.old)) (held traces.old) (held ports.old))) }
         ensures lent { (traces.new.places.ghost_name ≡ traces.old.places.ghost_name) × (ports.new.places.ghost_name ≡ ports.old.places.ghost_name) }
     {
-        self.turn_steps(bus, board, i, traces, ports)
+        if traces.is_full() || ports.is_full() {
+            return Err(Stop::LogFull);
+        }
+        let (trace, write) = self.step(bus, board)?;
+        let _ = traces.append(trace);
+        note(ports, i, write);
+        Ok(())
     }
 
     // Makes up to n steps, each entered in the trace log, and each port write in the port log. It answers the steps made and the
@@ -108,12 +72,12 @@ impl Panel51 {
         ensures history { RunLives D.next (session (world (panel_state self.old) (B.memory bus.old) (D.pins board.old)) (held traces.old) (held ports.old)) n (result, session (world (panel_state self.new) (B.memory bus.new) (D.pins board.new)) (held traces.new) (held ports.new)) }
     {
         if n > MOST_STEPS {
-            return (0, TOO_MANY_STEPS);
+            return (0, u8::from(Stop::TooManySteps));
         }
         for i in 0..n {
             match self.turn(bus, board, i, traces, ports) {
-                Some(stop) => return (i, stop),
-                None => {}
+                Ok(()) => {}
+                Err(stop) => return (i, u8::from(stop)),
             }
         }
         (n, 0)

@@ -88,8 +88,14 @@ fn port_log(rt: HostRuntime) -> Result<(), Fail> {
     assert_eq!(rt; traces.len(), 3);
     match (ports.entry(0), ports.entry(1)) {
         (Some(first), Some(second)) => {
-            assert_eq!(rt; (first.port.number(), first.byte, first.step), (2, 0x5A, 1));
-            assert_eq!(rt; (second.port.number(), second.byte, second.step), (0, 1, 2));
+            assert_eq!(rt;
+                (u8::from(first.port), first.byte, first.step),
+                (2, 0x5A, 1)
+            );
+            assert_eq!(rt;
+                (u8::from(second.port), second.byte, second.step),
+                (0, 1, 2)
+            );
             Ok(())
         }
         _ => Err(Fail::new("two port writes")),

@@ -2,6 +2,7 @@
 use Rattle.std.specs.Prelude.{ℕ, Bool, true, false, cond, Some, None, Ok, Err, Option, Result, nat_lt}
 use Rattle.outcome.specs.Outcome.{then}
 use Rattle.records.specs.declared.traces.TraceRecord.{TraceRecord}
+use Rattle.records.specs.Port.{port_number}
 use Rattle.boards.specs.Board.{Pins, drive_of}
 use Rattle.buses.specs.Memory.{Memory}
 use Rattle.core51.specs.declared.fault.Fault.{Fault}
@@ -41,7 +42,7 @@ act_of levels s m = act_steps levels s m
 -- a port write is driven to the board
 abbrev pub driven_to : {S : Type 0} → Option PortWrite → Pins S → Pins S
 driven_to None b = b
-driven_to (Some w) b = drive_of b w.port w.byte
+driven_to (Some w) b = drive_of b (port_number w.port) w.byte
 
 -- no step begins after more than 3,999,999,996 cycles
 abbrev pub is_late : ℕ → Bool

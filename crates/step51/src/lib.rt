@@ -4,3 +4,4 @@
 pub mod action;
 pub mod reset;
 pub mod step;
+pub mod stop;

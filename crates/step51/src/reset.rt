@@ -32,13 +32,7 @@ fn fresh_interrupts() -> Interrupts
             high: false,
         },
         accepted: None,
-        sample: Sample {
-            external0: false,
-            timer0: false,
-            external1: false,
-            timer1: false,
-            serial: false,
-        },
+        sample: Sample::default(),
     }
 }
 

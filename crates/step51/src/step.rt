@@ -4,7 +4,7 @@ ghost use Rattle.outcome.specs.Outcome.{kept};
 ghost use Rattle.cycles.specs.State.{state_of};
 ghost use Rattle.step51.specs.World.{world};
 ghost use Rattle.step51.specs.Action.{cycles_named, trace_of};
-ghost use Rattle.step51.specs.Step.{act_steps, act_of, driven_to, begin_steps, begin_of, step_steps, step_of};
+ghost use Rattle.step51.specs.Step.{act_of, driven_to, begin_of, step_of};
 
 use crate::action::Action;
 use boards::board::Board;
@@ -18,12 +18,10 @@ use records::traces::{Cycles, TraceRecord};
 // A step begins after at most so many machine cycles.
 const LAST_START: u32 = 3_999_999_996;
 
-fn act_steps<B: Bus, D: Board>(
-    machine: &mut Machine,
-    bus: &mut B,
-    board: &D,
-) -> Result<Action, Fault>
-    ensures { (result, (state_of machine.new, B.memory bus.new)) ≡ kept (state_of machine.old, B.memory bus.old) (act_steps (D.pins board.now) (state_of machine.old) (B.memory bus.old)) }
+// The vector call of the accepted request, or the instruction at PC.
+#[tactic(auto, unfolding(crate::specs::Step::act_of))]
+fn act<B: Bus, D: Board>(machine: &mut Machine, bus: &mut B, board: &D) -> Result<Action, Fault>
+    ensures { (result, (state_of machine.new, B.memory bus.new)) ≡ kept (state_of machine.old, B.memory bus.old) (act_of (D.pins board.now) (state_of machine.old) (B.memory bus.old)) }
 {
     match machine.interrupts.accepted {
         Some(request) => {
@@ -40,39 +38,17 @@ fn act_steps<B: Bus, D: Board>(
     }
 }
 
-// The vector call of the accepted request, or the instruction at PC.
-fn act<B: Bus, D: Board>(machine: &mut Machine, bus: &mut B, board: &D) -> Result<Action, Fault>
-    ensures { (result, (state_of machine.new, B.memory bus.new)) ≡ kept (state_of machine.old, B.memory bus.old) (act_of (D.pins board.now) (state_of machine.old) (B.memory bus.old)) }
-{
-    act_steps(machine, bus, board)
-}
-
 // Drives a port write to the board.
 fn drive<D: Board>(board: &mut D, write: Option<PortWrite>)
     ensures { D.pins board.new ≡ driven_to write (D.pins board.old) }
 {
-    match write {
-        Some(write) => board.drive(write.port, write.byte),
-        None => {}
+    if let Some(PortWrite { port, byte }) = write {
+        board.drive(u8::from(port), byte);
     }
-}
-
-fn begin_steps<B: Bus, D: Board>(
-    machine: &mut Machine,
-    bus: &mut B,
-    board: &mut D,
-) -> Result<Action, Fault>
-    ensures { (result, world (state_of machine.new) (B.memory bus.new) (D.pins board.new)) ≡ kept (world (state_of machine.old) (B.memory bus.old) (D.pins board.old)) (begin_steps (world (state_of machine.old) (B.memory bus.old) (D.pins board.old))) }
-{
-    if machine.cycles > LAST_START {
-        return Err(Fault::TimeOver);
-    }
-    let action = act(machine, bus, board)?;
-    drive(board, action.port());
-    Ok(action)
 }
 
 // What a step does before its machine cycles, or why it is refused.
+#[tactic(auto, unfolding(crate::specs::Step::begin_of))]
 fn begin<B: Bus, D: Board>(
     machine: &mut Machine,
     bus: &mut B,
@@ -80,7 +56,12 @@ fn begin<B: Bus, D: Board>(
 ) -> Result<Action, Fault>
     ensures { (result, world (state_of machine.new) (B.memory bus.new) (D.pins board.new)) ≡ kept (world (state_of machine.old) (B.memory bus.old) (D.pins board.old)) (begin_of (world (state_of machine.old) (B.memory bus.old) (D.pins board.old))) }
 {
-    begin_steps(machine, bus, board)
+    if machine.cycles > LAST_START {
+        return Err(Fault::TimeOver);
+    }
+    let action = act(machine, bus, board)?;
+    drive(board, action.port());
+    Ok(action)
 }
 
 // The machine cycles of a step, as a trace record names them.
@@ -107,20 +88,8 @@ fn trace(machine: &Machine, pc: u16, action: Action) -> TraceRecord
     }
 }
 
-fn step_steps<B: Bus, D: Board>(
-    machine: &mut Machine,
-    bus: &mut B,
-    board: &mut D,
-) -> Result<(TraceRecord, Option<PortWrite>), Fault>
-    ensures { (result, world (state_of machine.new) (B.memory bus.new) (D.pins board.new)) ≡ kept (world (state_of machine.old) (B.memory bus.old) (D.pins board.old)) (step_steps D.next (world (state_of machine.old) (B.memory bus.old) (D.pins board.old))) }
-{
-    let pc = machine.core.chip.registers.pc;
-    let action = begin(machine, bus, board)?;
-    machine.run_cycles(board, action.count(), action.polls());
-    Ok((trace(machine, pc, action), action.port()))
-}
-
 // One step: its trace record and its port write, or why it is refused, with nothing changed.
+#[tactic(auto, unfolding(crate::specs::Step::step_of))]
 pub fn step<B: Bus, D: Board>(
     machine: &mut Machine,
     bus: &mut B,
@@ -128,5 +97,8 @@ pub fn step<B: Bus, D: Board>(
 ) -> Result<(TraceRecord, Option<PortWrite>), Fault>
     ensures { (result, world (state_of machine.new) (B.memory bus.new) (D.pins board.new)) ≡ kept (world (state_of machine.old) (B.memory bus.old) (D.pins board.old)) (step_of D.next (world (state_of machine.old) (B.memory bus.old) (D.pins board.old))) }
 {
-    step_steps(machine, bus, board)
+    let pc = machine.core.chip.registers.pc;
+    let action = begin(machine, bus, board)?;
+    machine.run_cycles(board, action.count(), action.polls());
+    Ok((trace(machine, pc, action), action.port()))
 }

@@ -4,7 +4,7 @@ use Rattle.step51.specs.Run.{Session, run_of}
 use Rattle.history51.specs.Agrees.{RunLives}
 use Rattle.history51.proofs.Lives.{lives}
 use Rattle.history51.proofs.Runs.{run_lives}
-use Rattle.panel51.proofs.Runs.{run_turn, run_end, run_above, run_within}
+use Rattle.panel51.proofs.Runs.{run_on, run_stop, run_end, run_above, run_within}
 use Rattle.panel51.proofs.panel.Panel51.run.Goals as goal
 
 -- whatever the contract's equation says is the run of the law
@@ -14,26 +14,26 @@ same_run next s n r e = subst (RunLives next s n) (sym e) (run_lives next s n)
 pub returns-then-n-gt-MOST_STEPS : goal.returns-then-n-gt-MOST_STEPS
 returns-then-n-gt-MOST_STEPS g c =
     let next = g.D.Board.next in
-    let e = sym (run_above next c.args.n _ (omega arith)) in
+    let e = sym (run_above next c.args.n c.from.result _ (omega arith) c.from.ensures) in
     record { value = e; lent = (refl, refl); lives = lives next; history = same_run next _ c.args.n _ e }
 
-pub returns-in-Some : goal.returns-in-Some
-returns-in-Some g c =
+pub returns-in-Err : goal.returns-in-Err
+returns-in-Err g c =
     let next = g.D.Board.next in
     let e = sym (run_within next c.args.n _ (omega arith) ∙ (c.loop-i.invariant.0
-    ∙ run_turn next c.args.n c.loop-i.i _ _ c.loop-i-test.true c.in-Some.ensures.value)) in
+    ∙ run_stop next c.args.n c.loop-i.i c.from-in-Err.result _ _ c.in-Err.stop c.loop-i-test.true c.from-in-Err.ensures c.in-Err.ensures.value)) in
     record {
       value = e;
-      lent = (c.in-Some.ensures.lent.0 ∙ c.loop-i.invariant.1, c.in-Some.ensures.lent.1 ∙ c.loop-i.invariant.2);
+      lent = (c.in-Err.ensures.lent.0 ∙ c.loop-i.invariant.1, c.in-Err.ensures.lent.1 ∙ c.loop-i.invariant.2);
       lives = lives next;
       history = same_run next _ c.args.n _ e;
     }
 
 pub loop-i-preserved : goal.loop-i-preserved
 loop-i-preserved g c = (
-  c.loop-i.invariant.0 ∙ run_turn g.D.Board.next c.args.n c.loop-i.i _ _ c.loop-i-test.true c.in-None.ensures.value,
-  c.in-None.ensures.lent.0 ∙ c.loop-i.invariant.1,
-  c.in-None.ensures.lent.1 ∙ c.loop-i.invariant.2,
+  c.loop-i.invariant.0 ∙ run_on g.D.Board.next c.args.n c.loop-i.i _ _ c.loop-i-test.true c.in-Ok.ensures.value,
+  c.in-Ok.ensures.lent.0 ∙ c.loop-i.invariant.1,
+  c.in-Ok.ensures.lent.1 ∙ c.loop-i.invariant.2,
 )
 
 pub returns : goal.returns
