@@ -4,15 +4,14 @@ use crate::programs::{CODE_BYTES, Program};
 // The bytes of one line.
 const LINE: usize = 16;
 
-// One line of the code memory.
-fn print_line(rt: &HostRuntime, code: &[u8; CODE_BYTES], at: usize) -> anyhow::Result<()> {
-    let high = (at / 256 % 256) as u8;
-    let low = (at % 256) as u8;
-    let mut sum = (LINE as u8).wrapping_add(high).wrapping_add(low);
-    print!(rt; ":{LINE:02X}{high:02X}{low:02X}00")?;
-    for i in 0..LINE {
-        let byte = code[at.wrapping_add(i) % CODE_BYTES];
-        sum = sum.wrapping_add(byte);
+// One line: the bytes at an address.
+fn print_line(rt: &HostRuntime, address: u16, bytes: &[u8]) -> anyhow::Result<()> {
+    let [high, low] = address.to_be_bytes();
+    let head = [LINE as u8, high, low, 0];
+    let mut sum = 0u8;
+    print!(rt; ":")?;
+    for byte in head.iter().chain(bytes) {
+        sum = sum.wrapping_add(*byte);
         print!(rt; "{byte:02X}")?;
     }
     let check = sum.wrapping_neg();
@@ -23,8 +22,8 @@ fn print_line(rt: &HostRuntime, code: &[u8; CODE_BYTES], at: usize) -> anyhow::R
 // The code memory of a program.
 pub fn print_hex(rt: &HostRuntime, program: Program) -> anyhow::Result<()> {
     let code = program.code();
-    for line in 0..CODE_BYTES / LINE {
-        print_line(rt, &code, line * LINE)?;
+    for (address, bytes) in (0..CODE_BYTES as u16).step_by(LINE).zip(code.chunks(LINE)) {
+        print_line(rt, address, bytes)?;
     }
     println!(rt; ":00000001FF")?;
     Ok(())

@@ -8,7 +8,7 @@ mod timing;
 use crate::hex::print_hex;
 use crate::programs::Program;
 use crate::timing::{print_run, print_time};
-use anyhow::anyhow;
+use anyhow::Context;
 use std::env;
 
 const PROGRAMS: [Program; 3] = [Program::Arithmetic, Program::Movx, Program::Interrupts];
@@ -29,18 +29,16 @@ fn print_times(rt: &HostRuntime, count: u32) -> anyhow::Result<()> {
 
 // The Intel HEX file of the program that has this name.
 fn print_code(rt: &HostRuntime, name: &str) -> anyhow::Result<()> {
-    for program in PROGRAMS {
-        if program.name() == name {
-            return print_hex(rt, program);
-        }
-    }
-    Err(anyhow!("no program of that name"))
+    let program = PROGRAMS
+        .into_iter()
+        .find(|program| program.name() == name)
+        .context("no program of that name")?;
+    print_hex(rt, program)
 }
 
 // Without arguments one run of each program; with a number that many timed runs; with "hex" and a name the code.
 fn bench(rt: &HostRuntime) -> anyhow::Result<()> {
-    let mut words = env::args(rt)?;
-    let _ = words.next();
+    let mut words = env::args(rt)?.skip(1);
     let Some(first) = words.next() else {
         return print_runs(rt);
     };

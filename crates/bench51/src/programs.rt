@@ -1,4 +1,5 @@
 // The three programs. Each begins at 0030H, counts down its loops, and ends at 0100H in a jump to itself.
+ghost use Rattle.std.specs.Prelude.{◌+◌, ◌≤◌, length};
 
 // The size of the code memory.
 pub const CODE_BYTES: usize = 512;
@@ -123,10 +124,10 @@ const ENDING: [u8; 2] = [
 ];
 
 // Copies bytes to an address of the code memory.
-fn place(code: &mut [u8; CODE_BYTES], at: usize, bytes: &[u8]) {
-    for (i, byte) in bytes.iter().enumerate() {
-        code[at.wrapping_add(i) % CODE_BYTES] = *byte;
-    }
+fn place(code: &mut [u8; CODE_BYTES], at: usize, bytes: &[u8])
+    requires { at + length bytes.now ≤ CODE_BYTES }
+{
+    code[at..at + bytes.len()].copy_from_slice(bytes);
 }
 
 impl Program {

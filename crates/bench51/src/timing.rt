@@ -1,9 +1,8 @@
 // A program run from the reset to its end, in runs of 60,000 steps, each into empty logs.
-use crate::programs::{CODE_BYTES, END, Program};
+use crate::programs::{END, Program};
 use anyhow::anyhow;
-use boards::board::Board;
 use boards::script::Script;
-use buses::{Bus, SplitBus};
+use buses::SplitBus;
 use logs::log::Log;
 use panel51::Panel51;
 use records::pins::PinRecord;
@@ -53,16 +52,14 @@ fn pin_records() -> [PinRecord; PINS] {
         port: Port::P2,
         level: 0xff,
     }; PINS];
-    let mut cycle = 0u32;
-    for i in 0..PINS {
-        records[i].cycle = cycle;
-        records[i].level = (i % 256) as u8;
-        cycle = cycle.wrapping_add(PIN_CYCLES);
+    for (i, record) in (0u32..).zip(&mut records) {
+        record.cycle = i.wrapping_mul(PIN_CYCLES);
+        record.level = (i % 256) as u8;
     }
     records
 }
 
-// Steps in a row: how many, how many of them at the end of the program, and the number that stopped them.
+// Steps in a row: how many, how many of them at the end of the program, and the number that stopped them, as run gives it.
 #[derive(Clone, Copy)]
 struct Made {
     steps: u64,
@@ -72,75 +69,66 @@ struct Made {
 
 // The steps of a log that were made at the end of the program, which is where its last step was made, if any was.
 fn steps_at_end(traces: &Log<'_, TraceRecord>) -> u64 {
-    let mut count = 0u64;
-    for i in 0..traces.len() {
-        let before = traces.len().wrapping_sub(i).wrapping_sub(1);
-        match traces.entry(before) {
-            Some(record) => {
-                if record.pc != END {
-                    return count;
-                }
+    traces
+        .records()
+        .iter()
+        .rev()
+        .take_while(|record| record.pc == END)
+        .count() as u64
+}
+
+// A core on a split bus and the script board, and the places of its logs.
+#[derive(Drop)]
+struct Bench<'a> {
+    core: Panel51,
+    bus: SplitBus<'a>,
+    board: Script<'a>,
+    traces: Vec<TraceRecord>,
+    ports: Vec<PortRecord>,
+}
+
+impl Bench<'_> {
+    // One run into empty logs.
+    fn run_once(&mut self) -> Made {
+        let mut traces = Log::new(self.traces.as_mut_slice());
+        let mut ports = Log::new(self.ports.as_mut_slice());
+        let (steps, stop) = self.core.run(
+            &mut self.bus,
+            &mut self.board,
+            STEPS,
+            &mut traces,
+            &mut ports,
+        );
+        Made {
+            steps: u64::from(steps),
+            at_end: steps_at_end(&traces),
+            stop,
+        }
+    }
+
+    // Runs until the program is at its end or stops, at most so many.
+    fn runs(&mut self, most: u32) -> Made {
+        let mut steps = 0u64;
+        for _ in 0..most {
+            let made = self.run_once();
+            steps = steps.wrapping_add(made.steps);
+            if made.at_end != 0 || made.stop != 0 {
+                return Made { steps, ..made };
             }
-            None => return count,
         }
-        count = count.wrapping_add(1);
-    }
-    count
-}
-
-// One run into empty logs.
-fn run_once<B: Bus, D: Board>(
-    core: &mut Panel51,
-    bus: &mut B,
-    board: &mut D,
-    traces: &mut [TraceRecord],
-    ports: &mut [PortRecord],
-) -> Made {
-    let mut traces = Log::new(traces);
-    let mut ports = Log::new(ports);
-    let (steps, stop) = core.run(bus, board, STEPS, &mut traces, &mut ports);
-    Made {
-        steps: u64::from(steps),
-        at_end: steps_at_end(&traces),
-        stop,
-    }
-}
-
-// Runs until the program is at its end or stops, at most so many.
-fn runs<B: Bus, D: Board>(
-    core: &mut Panel51,
-    bus: &mut B,
-    board: &mut D,
-    traces: &mut [TraceRecord],
-    ports: &mut [PortRecord],
-    most: u32,
-) -> Made {
-    let mut steps = 0u64;
-    for _ in 0..most {
-        let made = run_once(core, bus, board, traces, ports);
-        steps = steps.wrapping_add(made.steps);
-        if made.at_end != 0 || made.stop != 0 {
-            return Made {
-                steps,
-                at_end: made.at_end,
-                stop: made.stop,
-            };
+        Made {
+            steps,
+            at_end: 0,
+            stop: 0,
         }
-    }
-    Made {
-        steps,
-        at_end: 0,
-        stop: 0,
     }
 }
 
 // A program from the reset, on a split bus and the script board, and the time that its runs took.
 fn measure(rt: &HostRuntime, program: Program, most: u32) -> anyhow::Result<(Made, Duration)> {
-    let mut traces = vec![in rt.alloc(); NO_TRACE; PLACES]?;
-    let mut ports = vec![in rt.alloc(); NO_PORT; PLACES]?;
     let code = program.code();
     let mut data = [0; DATA_BYTES];
-    let Ok(mut bus) = SplitBus::new(&code, &mut data) else {
+    let Ok(bus) = SplitBus::new(&code, &mut data) else {
         return Err(anyhow!("no bus"));
     };
     let records = pin_records();
@@ -150,15 +138,15 @@ fn measure(rt: &HostRuntime, program: Program, most: u32) -> anyhow::Result<(Mad
     }
     let mut core = Panel51::new();
     core.reset(&mut board);
+    let mut bench = Bench {
+        core,
+        bus,
+        board,
+        traces: vec![in rt.alloc(); NO_TRACE; PLACES]?,
+        ports: vec![in rt.alloc(); NO_PORT; PLACES]?,
+    };
     let began = Instant::now(rt)?;
-    let made = runs(
-        &mut core,
-        &mut bus,
-        &mut board,
-        traces.as_mut_slice(),
-        ports.as_mut_slice(),
-        most,
-    );
+    let made = bench.runs(most);
     let took = began.elapsed(rt)?;
     Ok((made, took))
 }

@@ -2,24 +2,23 @@
 use crate::setup::Setup;
 use core51::state::Registers;
 use std::alloc::{AllocError, Global};
+use std::fmt::{Display, Write};
 
 // The differences in words, none where all is as expected.
 #[derive(Drop)]
 struct Report {
-    heap: Global,
     text: String,
 }
 
 impl Report {
-    fn one(&mut self, name: &str, got: u16, wanted: u16) -> Result<(), AllocError> {
+    fn one(&mut self, name: impl Display + Drop, got: u16, wanted: u16) -> Result<(), AllocError> {
         if got != wanted {
-            let words = format!(in self.heap; " {name}={got:02X} and not {wanted:02X}")?;
-            self.text.push_str(words.as_str())?;
+            write!(self.text, " {name}={got:02X} and not {wanted:02X}")?;
         }
         Ok(())
     }
 
-    fn byte(&mut self, name: &str, got: u8, wanted: u8) -> Result<(), AllocError> {
+    fn byte(&mut self, name: impl Display + Drop, got: u8, wanted: u8) -> Result<(), AllocError> {
         self.one(name, u16::from(got), u16::from(wanted))
     }
 
@@ -30,18 +29,15 @@ impl Report {
         got: Option<u16>,
         wanted: Option<u16>,
     ) -> Result<(), AllocError> {
-        match (got, wanted) {
-            (Some(g), Some(w)) => self.one(name, g, w),
-            _ => Ok(()),
+        if let (Some(got), Some(wanted)) = (got, wanted) {
+            self.one(name, got, wanted)?;
         }
+        Ok(())
     }
 
     fn bytes(&mut self, before: &str, got: &[u8], wanted: &[u8]) -> Result<(), AllocError> {
-        for (i, (g, w)) in got.iter().zip(wanted.iter()).enumerate() {
-            if *g != *w {
-                let name = format!(in self.heap; "{before}[{i:02X}]")?;
-                self.byte(name.as_str(), *g, *w)?;
-            }
+        for (i, (got, wanted)) in got.iter().zip(wanted).enumerate() {
+            self.byte(format_args!("{before}[{i:02X}]"), *got, *wanted)?;
         }
         Ok(())
     }
@@ -60,15 +56,13 @@ impl Report {
 
 // All differences between two states.
 pub fn differences(heap: Global, got: &Setup, wanted: &Setup) -> Result<String, AllocError> {
-    let mut d = Report {
-        heap,
+    let mut report = Report {
         text: String::new(heap),
     };
-    d.registers(&got.registers, &wanted.registers)?;
-    d.bytes("L", &got.levels, &wanted.levels)?;
-    d.bytes("X", &got.external, &wanted.external)?;
-    d.told("STEPS", got.steps, wanted.steps)?;
-    d.told("CYCLES", got.cycles, wanted.cycles)?;
-    let Report { heap: _, text } = d;
-    Ok(text)
+    report.registers(&got.registers, &wanted.registers)?;
+    report.bytes("L", &got.levels, &wanted.levels)?;
+    report.bytes("X", &got.external, &wanted.external)?;
+    report.told("STEPS", got.steps, wanted.steps)?;
+    report.told("CYCLES", got.cycles, wanted.cycles)?;
+    Ok(report.text)
 }

@@ -19,29 +19,19 @@ use table::{Example, apply, columns, program};
 
 fn given(example: Example<'_>) -> Result<Setup, Problem> {
     let mut setup = Setup::reset();
-    match apply(&mut setup, example.given) {
-        Some(()) => {
-            setup.registers.settle();
-            Ok(setup)
-        }
-        None => Err(Problem::Given),
-    }
+    apply(&mut setup, example.given).ok_or(Problem::Given)?;
+    setup.registers.settle();
+    Ok(setup)
 }
 
 // What is given, with PC after the code and what is expected put in.
 fn wanted(example: Example<'_>, length: usize) -> Result<Setup, Problem> {
     let mut setup = given(example)?;
-    let Ok(length) = u16::try_from(length) else {
-        return Err(Problem::NoRoom);
-    };
+    let length = u16::try_from(length).map_err(|_| Problem::NoRoom)?;
     setup.registers.pc = setup.registers.pc.wrapping_add(length);
-    match apply(&mut setup, example.expected) {
-        Some(()) => {
-            setup.registers.settle();
-            Ok(setup)
-        }
-        None => Err(Problem::Expected),
-    }
+    apply(&mut setup, example.expected).ok_or(Problem::Expected)?;
+    setup.registers.settle();
+    Ok(setup)
 }
 
 // The differences between what an example leaves and what it is to leave.

@@ -1,4 +1,5 @@
 // Why an example has no answer to compare.
+use core51::fault::Fault;
 use std::alloc::{AllocError, AllocFailed};
 use std::fmt;
 
@@ -9,8 +10,7 @@ pub enum Problem {
     Expected,
     NoRoom,
     NoMemory,
-    // the number of the core's refusal
-    Refused(u8),
+    Refused(Fault),
 }
 
 impl fmt::Display for Problem {
@@ -21,8 +21,14 @@ impl fmt::Display for Problem {
             Problem::Expected => write!(f, "wrong line: expected"),
             Problem::NoRoom => write!(f, "wrong line: the code does not fit"),
             Problem::NoMemory => write!(f, "no memory"),
-            Problem::Refused(number) => write!(f, "refused {number}"),
+            Problem::Refused(fault) => write!(f, "refused {}", u8::from(*fault)),
         }
+    }
+}
+
+impl From<Fault> for Problem {
+    fn from(fault: Fault) -> Problem {
+        Problem::Refused(fault)
     }
 }
 

@@ -35,13 +35,10 @@ fn core(mut registers: Registers) -> Core
     }
 }
 
+// Copies bytes to an address of the code memory, if they fit there.
 fn place(memory: &mut [u8; CODE], from: u16, bytes: &[u8]) -> Option<()> {
-    for (i, byte) in bytes.iter().enumerate() {
-        let at = (from as usize).wrapping_add(i);
-        if at >= CODE {
-            return None;
-        }
-        memory[at] = *byte;
+    for (at, byte) in (usize::from(from)..).zip(bytes) {
+        *memory.get_mut(at)? = *byte;
     }
     Some(())
 }
@@ -55,10 +52,8 @@ fn steps<B: Bus, D: Board>(
 ) -> Result<u16, Problem> {
     let mut cycles = 0u16;
     for _ in 0..count {
-        match execute(core, bus, board) {
-            Ok(told) => cycles = cycles.wrapping_add(u16::from(told.cycles)),
-            Err(fault) => return Err(Problem::Refused(fault.number())),
-        }
+        let told = execute(core, bus, board)?;
+        cycles = cycles.wrapping_add(u16::from(told.cycles));
     }
     Ok(cycles)
 }
@@ -74,18 +69,13 @@ pub fn run(start: Setup, code: &Code) -> Result<Setup, Problem> {
     } = start;
     let count = told.unwrap_or(code.instructions);
     let mut memory = [0u8; CODE];
-    if place(&mut memory, registers.pc, code.bytes.as_slice()).is_none() {
-        return Err(Problem::NoRoom);
-    }
-    let board = Levels {
-        levels,
-        driven: [0xff; 4],
-    };
+    place(&mut memory, registers.pc, code.bytes.as_slice()).ok_or(Problem::NoRoom)?;
+    let board = Levels::new(levels);
     let mut core = core(registers);
-    let cycles = match SplitBus::new(&memory, &mut external) {
-        Ok(mut bus) => steps(&mut core, &mut bus, &board, count)?,
-        Err(_) => return Err(Problem::NoRoom),
+    let Ok(mut bus) = SplitBus::new(&memory, &mut external) else {
+        return Err(Problem::NoRoom);
     };
+    let cycles = steps(&mut core, &mut bus, &board, count)?;
     let Core { chip } = core;
     Ok(Setup {
         registers: chip.registers,

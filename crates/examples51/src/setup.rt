@@ -3,6 +3,7 @@ ghost use Rattle.std.specs.Prelude.{◌≡◌, is_some, nat_lt};
 
 use arithmetic::bits::with_bit;
 use core51::state::Registers;
+use records::ports::Port;
 
 // A byte that a line of the table can name.
 #[derive(Clone, Copy)]
@@ -11,8 +12,8 @@ pub enum Cell {
     B,
     Sp,
     Ram(u8),
-    Latch(u8),
-    Level(u8),
+    Latch(Port),
+    Level(Port),
     External(u8),
 }
 
@@ -66,8 +67,8 @@ impl Setup {
             Cell::B => self.registers.b = byte,
             Cell::Sp => self.registers.sp = byte,
             Cell::Ram(at) => self.registers.ram[at as usize % 128] = byte,
-            Cell::Latch(port) => self.registers.latches[port as usize % 4] = byte,
-            Cell::Level(port) => self.levels[port as usize % 4] = byte,
+            Cell::Latch(port) => self.registers.latches[u8::from(port) as usize] = byte,
+            Cell::Level(port) => self.levels[u8::from(port) as usize] = byte,
             Cell::External(at) => self.external[at as usize] = byte,
         }
     }

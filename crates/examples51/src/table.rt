@@ -3,6 +3,7 @@ ghost use Rattle.std.specs.Prelude.{◌<◌, IfSome};
 
 use crate::problem::Problem;
 use crate::setup::{Cell, Part, Setup};
+use records::ports::Port;
 use std::alloc::Global;
 
 // name ; code ; given ; expected
@@ -33,7 +34,7 @@ pub fn columns(line: &str) -> Option<Example<'_>> {
     })
 }
 
-// A digit of base sixteen.
+// A digit of base sixteen, a capital one alone: the library takes small letters too.
 fn digit(byte: u8) -> Option<u8>
     ensures { IfSome result (λ d. d < 16) }
 {
@@ -56,14 +57,8 @@ fn code_byte(word: &str) -> Option<u8> {
     }
 }
 
-// The number of a port.
-fn port(byte: u8) -> Option<u8>
-    ensures { IfSome result (λ n. n < 4) }
-{
-    match byte {
-        b'0'..=b'3' => Some(byte - b'0'),
-        _ => None,
-    }
+fn port(byte: u8) -> Option<Port> {
+    Port::try_from(byte.checked_sub(b'0')?).ok()
 }
 
 // The number of a working register.
@@ -78,7 +73,7 @@ fn register(byte: u8) -> Option<u8>
 
 fn ram(high: u8, low: u8) -> Option<Cell> {
     let at = byte(high, low)?;
-    if at < 128 { Some(Cell::Ram(at)) } else { None }
+    (at < 128).then_some(Cell::Ram(at))
 }
 
 fn cell(name: &str) -> Option<Cell> {
@@ -132,10 +127,7 @@ pub fn apply(setup: &mut Setup, column: &str) -> Option<()> {
 
 fn append(bytes: &mut Vec<u8>, instruction: &str) -> Result<(), Problem> {
     for word in instruction.split_whitespace() {
-        let Some(byte) = code_byte(word) else {
-            return Err(Problem::Code);
-        };
-        bytes.push(byte)?;
+        bytes.push(code_byte(word).ok_or(Problem::Code)?)?;
     }
     Ok(())
 }
@@ -143,11 +135,10 @@ fn append(bytes: &mut Vec<u8>, instruction: &str) -> Result<(), Problem> {
 // The code of an example.
 pub fn program(heap: Global, column: &str) -> Result<Code, Problem> {
     let mut bytes = Vec::new(heap);
-    let mut instructions = 0u16;
     for instruction in column.split(',') {
         append(&mut bytes, instruction)?;
-        instructions = instructions.wrapping_add(1);
     }
+    let instructions = u16::try_from(column.split(',').count()).map_err(|_| Problem::NoRoom)?;
     Ok(Code {
         bytes,
         instructions,
