@@ -2,7 +2,7 @@ ghost use Rattle.std.specs.Prelude.{◌≡◌};
 ghost use Rattle.outcome.specs.Outcome.{kept};
 ghost use Rattle.buses.specs.Memory.{Memory, Lawful, SameFitting, FittingStands, answer, write_of, exchange_of};
 
-// Why an access is refused. It rises by `?` through the layers: a rule of the project.
+// Why an access is refused. It rises by `?` through the layers: a rule of the project, a form that was asked for (docs/DECISIONS.md).
 #[derive(Clone, Copy, PartialEq, Eq, Debug)]
 pub enum BusFault {
     NotFitted,

@@ -5,9 +5,9 @@ ghost use Rattle.buses.specs.Refusals.{number_of, has_size};
 #[derive(Clone, Copy, PartialEq, Eq, Debug)]
 pub enum Refusal {
     // a memory of no byte or above 65,536 bytes
-    MemorySize,
+    MemorySize = 1,
     // a fence whose first address is above its last
-    FirstAboveLast,
+    FirstAboveLast = 2,
 }
 
 // The number of a refusal.
@@ -15,10 +15,7 @@ impl From<Refusal> for u8 {
     ghost from_gives = { λ r n. n ≡ number_of r };
 
     fn from(refusal: Refusal) -> u8 {
-        match refusal {
-            Refusal::MemorySize => 1,
-            Refusal::FirstAboveLast => 2,
-        }
+        refusal as u8
     }
 }
 

@@ -7,19 +7,19 @@ use buses::BusFault;
 #[derive(Clone, Copy, PartialEq, Eq, Debug)]
 pub enum Fault {
     // no time is left for a step
-    TimeOver,
+    TimeOver = 10,
     // a code byte that the instruction needs is not fitted
-    CodeNotFitted,
+    CodeNotFitted = 11,
     // the opcode is no instruction
-    NoInstruction,
+    NoInstruction = 12,
     // a direct address or a bit above 7FH has no register
-    NoRegister,
+    NoRegister = 13,
     // an indirect or stack address is above 7FH
-    NoRam,
+    NoRam = 14,
     // there is no data byte at the address
-    DataNotFitted,
+    DataNotFitted = 15,
     // the data byte at the address cannot be written
-    DataFenced,
+    DataFenced = 16,
 }
 
 // The number of a refusal.
@@ -27,15 +27,7 @@ impl From<Fault> for u8 {
     ghost from_gives = { λ fault n. n ≡ number_of fault };
 
     fn from(fault: Fault) -> u8 {
-        match fault {
-            Fault::TimeOver => 10,
-            Fault::CodeNotFitted => 11,
-            Fault::NoInstruction => 12,
-            Fault::NoRegister => 13,
-            Fault::NoRam => 14,
-            Fault::DataNotFitted => 15,
-            Fault::DataFenced => 16,
-        }
+        fault as u8
     }
 }
 

@@ -6,10 +6,10 @@ use crate::refusals::Refusal;
 // One of the four ports.
 #[derive(Clone, Copy, Debug, PartialEq, Eq)]
 pub enum Port {
-    P0,
-    P1,
-    P2,
-    P3,
+    P0 = 0,
+    P1 = 1,
+    P2 = 2,
+    P3 = 3,
 }
 
 // The number of a port, which gives the port back.
@@ -17,12 +17,7 @@ impl From<Port> for u8 {
     ghost from_gives = { λ p n. (n ≡ port_number p) × (port_of n ≡ Ok p) };
 
     fn from(port: Port) -> u8 {
-        match port {
-            Port::P0 => 0,
-            Port::P1 => 1,
-            Port::P2 => 2,
-            Port::P3 => 3,
-        }
+        port as u8
     }
 }
 

@@ -4,11 +4,11 @@ ghost use Rattle.records.specs.Refusal.{number_of};
 // Why a record, a log or a file of records is refused.
 #[derive(Clone, Copy, PartialEq, Eq, Debug)]
 pub enum Refusal {
-    FileLength,
-    FieldOutsideLayout,
-    CycleBelowTheOneBefore,
-    TooLittleRoom,
-    LogFull,
+    FileLength = 3,
+    FieldOutsideLayout = 4,
+    CycleBelowTheOneBefore = 5,
+    TooLittleRoom = 7,
+    LogFull = 8,
 }
 
 // The number of a refusal.
@@ -16,12 +16,6 @@ impl From<Refusal> for u8 {
     ghost from_gives = { λ r n. n ≡ number_of r };
 
     fn from(refusal: Refusal) -> u8 {
-        match refusal {
-            Refusal::FileLength => 3,
-            Refusal::FieldOutsideLayout => 4,
-            Refusal::CycleBelowTheOneBefore => 5,
-            Refusal::TooLittleRoom => 7,
-            Refusal::LogFull => 8,
-        }
+        refusal as u8
     }
 }

@@ -5,14 +5,14 @@ ghost use Rattle.records.specs.Trace.{source_number, source_of, cycles_number, c
 use crate::record::{Record, store};
 use crate::refusals::Refusal;
 
-// One of the five interrupt sources, in the order of their numbers 1 to 5.
+// One of the five interrupt sources, by their numbers.
 #[derive(Clone, Copy, Debug, PartialEq, Eq)]
 pub enum Source {
-    External0,
-    Timer0,
-    External1,
-    Timer1,
-    Serial,
+    External0 = 1,
+    Timer0 = 2,
+    External1 = 3,
+    Timer1 = 4,
+    Serial = 5,
 }
 
 // What a step was.
@@ -25,9 +25,9 @@ pub enum StepKind {
 // The machine cycles of a step.
 #[derive(Clone, Copy, Debug, PartialEq, Eq)]
 pub enum Cycles {
-    One,
-    Two,
-    Four,
+    One = 1,
+    Two = 2,
+    Four = 4,
 }
 
 // Which services are in progress.
@@ -66,13 +66,7 @@ impl From<Source> for u8 {
     ghost from_gives = { λ s n. (n ≡ source_number s) × (source_of n ≡ Ok s) };
 
     fn from(source: Source) -> u8 {
-        match source {
-            Source::External0 => 1,
-            Source::Timer0 => 2,
-            Source::External1 => 3,
-            Source::Timer1 => 4,
-            Source::Serial => 5,
-        }
+        source as u8
     }
 }
 
@@ -97,11 +91,7 @@ impl From<Cycles> for u8 {
     ghost from_gives = { λ c n. (n ≡ cycles_number c) × (cycles_of n ≡ Ok c) };
 
     fn from(cycles: Cycles) -> u8 {
-        match cycles {
-            Cycles::One => 1,
-            Cycles::Two => 2,
-            Cycles::Four => 4,
-        }
+        cycles as u8
     }
 }
 
