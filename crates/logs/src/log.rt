@@ -1,18 +1,21 @@
-ghost use Rattle.std.specs.Prelude.{◌≡◌, ◌+◌, [], length};
-ghost use Rattle.std.specs.List.{slice_get};
-ghost use Rattle.outcome.specs.Outcome.{kept};
-ghost use Rattle.logs.specs.Log.{held, append_of, extend_of, capacity_of, entry_of, full_of, empty};
+ghost use Rattle.std.specs.Prelude.{◌≡◌, ◌≤◌, length};
 
 use records::refusals::Refusal;
 
-// Records of any kind in the caller's memory.
+// Records of any kind in the caller's memory. The count of used places stands beside them: a rule of the project, lent memory and no heap.
+// That a call keeps the memory is a clause of each call that changes a log, since it speaks of two values of the log: a ghost field or a
+// model speaks of one.
 #[derive(Drop)]
 pub struct Log<'a, R> {
     places: &'a mut [R],
     used: usize,
+    ghost within: { used ≤ length places.now },
 }
 
 impl<'a, R: Copy> Log<'a, R> {
+    ghost use Rattle.outcome.specs.Outcome.{kept};
+    ghost use Rattle.logs.specs.Log.{held, append_of, extend_of, capacity_of, entry_of, full_of, empty};
+
     // An empty log over the places.
     pub fn new(places: &'a mut [R]) -> Log<'a, R>
         ensures value { held result ≡ empty places.old }
@@ -25,7 +28,7 @@ impl<'a, R: Copy> Log<'a, R> {
     pub fn records(&self) -> &[R]
         ensures { result.now ≡ (held self.now).made }
     {
-        &self.places[0..self.used.min(self.places.len())]
+        &self.places[0..self.used]
     }
 
     // The number of records in it.
@@ -46,7 +49,7 @@ impl<'a, R: Copy> Log<'a, R> {
     pub fn room(&self) -> usize
         ensures { result ≡ length (held self.now).free }
     {
-        self.capacity().saturating_sub(self.used)
+        self.capacity() - self.used
     }
 
     pub fn is_full(&self) -> bool
@@ -60,7 +63,7 @@ impl<'a, R: Copy> Log<'a, R> {
         ensures value { (result, held self.new) ≡ kept (held self.old) (append_of (held self.old) «record») }
         ensures lent { self.new.places.ghost_name ≡ self.old.places.ghost_name }
     {
-        if self.used >= self.places.len() {
+        if self.is_full() {
             return Err(Refusal::LogFull);
         }
         self.places[self.used] = record;

@@ -1,5 +1,6 @@
 -- How the records of a file are taken piece by piece.
 use Rattle.std.proofs.Common.{◌≡◌, ℕ, zero, suc, ◌+◌, ◌/◌, ◌<◌, ◌≤◌, Bool, true, false, cond, ◌&&◌, ltb, List, [], ◌∷◌, ◌++◌, length, drop, Some, None, Ok, Err, Option, Result, sym, refl, ap, ◌∙◌, subst, add-one, arith, length-append, rules}
+use Rattle.std.proofs.Math.Bool.{and_assoc}
 use native.Mathlib.Nat.{add-div_left, div-eq_of_lt}
 use Rattle.std.specs.List.{flat_map}
 use Rattle.std.proofs.lemmas.List.{take_at, drop_at}
@@ -32,17 +33,13 @@ judged ordered so_far before (Ok rs) = cond (so_far && in_order ordered before r
 judged ordered so_far before (Err e) = Err e
 
 module _ {R : Type 0} (ordered : R → R → Bool) where
-  one_more : (a b c : Bool) → (a && (b && c)) ≡ ((a && b) && c)
-  one_more true b c = refl
-  one_more false b c = refl
-
   -- one record is taken, and the rest decide
   pub judged_more : (so_far : Bool) (before : Option R) (r : R) (x : Result (List R) Refusal)
       → judged ordered so_far before (then x (λ rs. Ok (r ∷ rs))) ≡ judged ordered (so_far && follows ordered before r) (Some r) x
-  judged_more so_far before r (Ok rs) = ap (λ b. cond b (Ok tt) (Err CycleBelowTheOneBefore)) (one_more so_far (follows ordered before r) (in_order ordered (Some r) rs))
+  judged_more so_far before r (Ok rs) = ap (λ b. cond b (Ok tt) (Err CycleBelowTheOneBefore)) (sym (and_assoc so_far (follows ordered before r) (in_order ordered (Some r) rs)))
   judged_more so_far before r (Err e) = refl
 
-  pub judged_none : (so_far : Bool) (before : Option R) → judged ordered so_far before (Ok []) ≡ cond so_far (Ok tt) (Err CycleBelowTheOneBefore)
+  judged_none : (so_far : Bool) (before : Option R) → judged ordered so_far before (Ok []) ≡ cond so_far (Ok tt) (Err CycleBelowTheOneBefore)
   judged_none true before = refl
   judged_none false before = refl
 
@@ -107,9 +104,16 @@ module _ {R : Type 0} (ordered : R → R → Bool) (taken : List ℕ → Result 
       ∙ ap (λ x. judged ordered so_far before (then x (λ r. then (all_taken taken (all_pieces w rest)) (λ rs. Ok (r ∷ rs))))) (sym t)
 
   -- no piece is left
-  pub judged_end : (so_far : Bool) (before : Option R) (bs : List ℕ) → length bs < w
+  judged_end : (so_far : Bool) (before : Option R) (bs : List ℕ) → length bs < w
       → judged ordered so_far before (all_taken taken (all_pieces w bs)) ≡ cond so_far (Ok tt) (Err CycleBelowTheOneBefore)
   judged_end so_far before bs h = ap (λ ps. judged ordered so_far before (all_taken taken ps)) (no_piece w bs h) ∙ judged_none ordered so_far before
+
+  -- so the verdict on the whole file
+  pub judged_whole : (so_far : Bool) (before : Option R) (file bs : List ℕ) → length bs < w
+      → judged ordered true None (all_taken taken (all_pieces w file)) ≡ judged ordered so_far before (all_taken taken (all_pieces w bs))
+      → ◌≡◌ {A = Result (Unit {0}) Refusal} (cond so_far (Ok tt) (Err CycleBelowTheOneBefore))
+      (then (then (all_taken taken (all_pieces w file)) (ordered_records ordered)) (λ _. Ok tt))
+  judged_whole so_far before file bs h e = sym (judged_all ordered (all_taken taken (all_pieces w file)) ∙ e ∙ judged_end so_far before bs h)
 
 -- A file of records that are in order is taken up where the log has room for them.
 module _ {R : Type 0} (ordered : R → R → Bool) (taken : List ℕ → Result R Refusal) (w : ℕ) (bs : List ℕ) (l : Entries R)

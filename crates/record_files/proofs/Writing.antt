@@ -1,23 +1,14 @@
 -- How bytes are written one part after the other.
-use Rattle.std.proofs.Common.{◌≡◌, ℕ, zero, suc, ◌+◌, ◌*◌, ◌<◌, ◌≤◌, true, false, cond, ltb, List, [], ◌∷◌, ◌++◌, length, take, drop, get_or, Some, Ok, Err, Result, sym, refl, ap, ◌∙◌, subst, suc-mul, add_comm, zero-mul, add-one, length-append, rules}
+use Rattle.std.proofs.Common.{◌≡◌, ℕ, zero, suc, ◌+◌, ◌*◌, ◌<◌, ◌≤◌, true, false, cond, ltb, List, [], ◌∷◌, ◌++◌, length, take, drop, get_or, Some, Ok, Err, sym, refl, ap, ◌∙◌, subst, suc-mul, add_comm, zero-mul, add-one, length-append, rules}
 use Rattle.std.specs.List.{slice_get, flat_map}
 use Rattle.std.proofs.lemmas.List.{append-nil, append_assoc, take-append-drop}
 use Rattle.std.proofs.lemmas.Option.{slice_get-get_or}
 use Rattle.outcome.specs.Outcome.{kept}
-use Rattle.records.specs.declared.refusals.Refusal.{Refusal}
 use Rattle.records.specs.declared.refusals.Refusal.TheVariants.{TooLittleRoom}
-use Rattle.records.specs.Bytes.{stored}
 use Rattle.record_files.specs.File.{image_at}
 use Rattle.record_files.specs.Text.{hex_byte, record_line, printed}
 use Rattle.logs.specs.Log.{Entries, entries, empty, entered, Adds}
 use Rattle.logs.proofs.Growth.{adds_more}
-
--- bytes that fit are written
-pub stored_fits : (bytes out out' : List ℕ) (a : Result (Unit {0}) Refusal) → (a, out') ≡ kept out (stored bytes out) → length bytes ≤ length out
-    → out' ≡ bytes ++ drop (length bytes) out
-stored_fits bytes out out' a e h =
-    let z : ltb (length out) (length bytes) ≡ false = search rules in
-    ap (λ x. x.1) (simp z at e)
 
 module _ {R A : Type 0} (f : R → List A) where
   -- one entry more

@@ -1,4 +1,4 @@
-ghost use Rattle.std.specs.Prelude.{◌≡◌, ◌/◌, ◌&&◌, length, Ok};
+ghost use Rattle.std.specs.Prelude.{◌≡◌, ◌/◌, length, Ok};
 ghost use Rattle.outcome.specs.Outcome.{kept, then};
 ghost use Rattle.record_files.specs.File.{pieces, all_taken, accepted, ordered_records, take_up_of};
 ghost use Rattle.records.specs.Order.{follows};
@@ -11,14 +11,11 @@ use records::refusals::Refusal;
 // The longest file of records, in bytes.
 const LONGEST_FILE: usize = 65536;
 
-// Whether records are in order, up to and with this one, which stands after `before`.
-fn still_in_order<R: Record>(ordered: bool, before: Option<R>, record: &R) -> bool
-    ensures { result ≡ (ordered && follows R.Record.ordered before «record».now) }
+// Whether a record may stand after the one before it; the first stands after none.
+fn follows<R: Record>(before: Option<R>, record: &R) -> bool
+    ensures { result ≡ follows R.Record.ordered before «record».now }
 {
-    match before {
-        Some(before) => ordered && record.may_follow(&before),
-        None => ordered,
-    }
+    before.is_none_or(|before| record.may_follow(&before))
 }
 
 // Refuses a piece that is no record, and records that are not in order.
@@ -29,7 +26,7 @@ fn check_pieces<R: Record>(file: &[u8]) -> Result<(), Refusal>
     let mut ordered = true;
     for piece in file.chunks_exact(R::WIDTH) {
         let record = R::take(piece)?;
-        ordered = still_in_order(ordered, before, &record);
+        ordered &= follows(before, &record);
         before = Some(record);
     }
     if ordered {

@@ -12,14 +12,15 @@ use records::record::Record;
 use records::refusals::Refusal;
 
 // The bytes of a file of pin records that count, and the records that they can be.
-const PINS_BYTES: usize = 4096;
+pub const PINS_BYTES: usize = 4096;
 
 const PINS: usize = 512;
 
 // The length of the last line.
 const STOP_LINE: usize = 8;
 
-// The capital digit of base sixteen for the low four bits.
+// The capital digit of base sixteen for the low four bits. Digits are written by hand: a rule of the project, text in lent memory and no
+// heap. The crate hex allocates, and what `write!` writes of a number has no contract.
 fn digit(n: u8) -> u8
     ensures { result ≡ digit_of (n % 16) }
 {
@@ -45,7 +46,7 @@ fn write_line<R: Record>(record: &R, text: &mut Log<'_, u8>)
     let _ = text.extend(&[b'\n']);
 }
 
-// Writes the last line.
+// Writes the last line. What stopped a run is a plain number: a rule of the project, as run answers it.
 fn write_stop(stop: u8, text: &mut Log<'_, u8>)
     ensures { Extends text.old text.new (stop_line stop) }
 {

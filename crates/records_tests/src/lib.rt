@@ -15,12 +15,6 @@ mod tests {
     use records::traces::TraceRecord;
     use std::test::Fail;
 
-    const NO_PIN: PinRecord = PinRecord {
-        cycle: 0,
-        port: Port::P0,
-        level: 0,
-    };
-
     // The number of an outcome: 0 where it is accepted.
     fn number(outcome: Result<(), Refusal>) -> u8 {
         match outcome {
@@ -38,7 +32,7 @@ mod tests {
 
     #[test]
     fn pin_files(rt: HostRuntime) {
-        let mut places = [NO_PIN; 3];
+        let mut places = [PinRecord::BLANK; 3];
         assert_eq!(rt; taken(&[], &mut places), (0, 0));
         assert_eq!(rt; taken(&[0; 7], &mut places), (3, 0));
         assert_eq!(rt; taken(&[0; 9], &mut places), (3, 0));
@@ -55,7 +49,7 @@ mod tests {
 
     #[test]
     fn cycles_in_order(rt: HostRuntime) {
-        let mut places = [NO_PIN; 2];
+        let mut places = [PinRecord::BLANK; 2];
         let equal = [0, 0, 1, 0, 3, 1, 0, 0, 0, 0, 1, 0, 3, 2, 0, 0];
         assert_eq!(rt; taken(&equal, &mut places), (0, 2));
         let below = [0, 0, 1, 0, 3, 1, 0, 0, 0, 0, 0, 255, 3, 2, 0, 0];
@@ -74,7 +68,7 @@ mod tests {
 
     #[test]
     fn longest_files(rt: HostRuntime) -> Result<(), Fail> {
-        let mut places = vec![in rt.alloc(); NO_PIN; 8192]?;
+        let mut places = vec![in rt.alloc(); PinRecord::BLANK; 8192]?;
         let file = vec![in rt.alloc(); 0u8; 65536]?;
         assert_eq!(rt; taken(file.as_slice(), places.as_mut_slice()), (0, 8192));
         let longer = vec![in rt.alloc(); 0u8; 65537]?;
@@ -89,11 +83,7 @@ mod tests {
 
     #[test]
     fn full_log(rt: HostRuntime) {
-        let mut places = [PortRecord {
-            port: Port::P0,
-            byte: 0,
-            step: 0,
-        }; 1];
+        let mut places = [PortRecord::BLANK; 1];
         let mut log = Log::new(&mut places);
         assert_eq!(rt;
             (log.len(), log.capacity(), log.room(), log.is_full()),

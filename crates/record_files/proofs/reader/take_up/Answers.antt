@@ -21,26 +21,20 @@ loop-piece-preserved g c =
       c.enter_piece.ensures.lent ∙ inv.3,
     )
 
-pub returns-then-room-file : goal.returns-then-room-file
-returns-then-room-file g c =
+pub returns-then-room-file-clause-value : goal.returns-then-room-file-clause-value
+returns-then-room-file-clause-value g c =
     let s : file_sized g.R.Record.WIDTH c.args.file.now ≡ true = search rules in
     let d = ap (λ k. length c.args.file.now / k) c.WIDTH-2.ensures in
-    record {
-      value = no_room g.R.Record.ordered g.R.Record.taken g.R.Record.WIDTH c.args.file.now (held c.args.log.now) s c.in_ok-check_pieces.ensures (omega (arith, d));
-      lent = search rules;
-    }
+    no_room g.R.Record.ordered g.R.Record.taken g.R.Record.WIDTH c.args.file.now (held c.args.log.now) s c.in_ok-check_pieces.ensures (omega (arith, d))
 
-pub returns : goal.returns
-returns g c =
+pub returns-clause-value : goal.returns-clause-value
+returns-clause-value g c =
     let inv = c.loop-piece.invariant in
     let step = c.in-None.ensures.steps in
     let s : file_sized g.R.Record.WIDTH c.args.file.now ≡ true = search rules in
     let d = ap (λ k. length c.args.file.now / k) c.WIDTH-2.ensures in
-    record {
-      value = taken_up g.R.Record.ordered g.R.Record.taken g.R.Record.WIDTH c.args.file.now (held c.args.log.now) s c.in_ok-check_pieces.ensures
-          (held c.loop-piece.log) (omega (arith, d)) (inv.2 (held c.loop-piece.log)
-          (subst (λ ps. Adds (held c.loop-piece.log) (held c.loop-piece.log) (flat_map (λ p. accepted (g.R.Record.taken p)) ps))
-          (sym (no_piece g.R.Record.WIDTH (chunks_exact_rest c.loop-piece.piece-iterator) (subst (λ k. length (chunks_exact_rest c.loop-piece.piece-iterator) < k) inv.1 step.1.0)))
-          (adds_none (held c.loop-piece.log))));
-      lent = inv.3;
-    }
+    taken_up g.R.Record.ordered g.R.Record.taken g.R.Record.WIDTH c.args.file.now (held c.args.log.now) s c.in_ok-check_pieces.ensures
+    (held c.loop-piece.log) (omega (arith, d)) (inv.2 (held c.loop-piece.log)
+    (subst (λ ps. Adds (held c.loop-piece.log) (held c.loop-piece.log) (flat_map (λ p. accepted (g.R.Record.taken p)) ps))
+    (sym (no_piece g.R.Record.WIDTH (chunks_exact_rest c.loop-piece.piece-iterator) (subst (λ k. length (chunks_exact_rest c.loop-piece.piece-iterator) < k) inv.1 step.1.0)))
+    (adds_none (held c.loop-piece.log))))

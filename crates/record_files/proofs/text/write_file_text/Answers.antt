@@ -4,13 +4,8 @@ use Rattle.record_files.specs.File.{file_records}
 use Rattle.logs.specs.Log.{held}
 use Rattle.records.specs.Pin.{pin_bytes, pin_taken, pin_ordered}
 use Rattle.record_files.specs.Text.{text_of, printed, outcome_text}
-use Rattle.record_files.proofs.Reading.{up_taken, up_refused, count_records}
+use Rattle.record_files.proofs.Reading.{up_refused, count_records}
 use Rattle.record_files.proofs.text.write_file_text.Goals as goal
-
-pub returns-in-Ok : goal.returns-in-Ok
-returns-in-Ok c =
-    let x = up_taken (held c.args.pins.now) (held c.take_up.new.log) (file_records 8 pin_taken pin_ordered c.args.file.now) c.requires.0 c.in-Ok.ensures.value in
-    c.write_text.ensures ∙ ap (λ y. kept c.args.out.now (printed (outcome_text y) c.args.out.now)) (sym x)
 
 pub returns-in-Err : goal.returns-in-Err
 returns-in-Err c =

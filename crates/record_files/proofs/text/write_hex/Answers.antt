@@ -1,15 +1,12 @@
-use Rattle.std.proofs.Common.{◌≡◌, ◌/◌, ◌<◌, [], ◌∷◌, get_or, refl, ap, ◌∙◌, subst, arith, rules}
+use Rattle.std.proofs.Common.{◌≡◌, ◌/◌, ◌<◌, [], ◌∷◌, get_or, ap, ◌∙◌, subst, arith, rules}
 use Rattle.std.specs.List.{flat_map}
 use Rattle.std.proofs.lemmas.List.{take_all}
 use Rattle.std.proofs.lemmas.Option.{slice_get-get_or}
 use Rattle.logs.specs.Log.{held, Adds}
 use Rattle.record_files.specs.Text.{digit_of, hex_byte}
-use Rattle.logs.proofs.Growth.{adds_none, adds_all}
+use Rattle.logs.proofs.Growth.{adds_all}
 use Rattle.record_files.proofs.Writing.{adds_next}
 use Rattle.record_files.proofs.text.write_hex.Goals as goal
-
-pub loop-b-init : goal.loop-b-init
-loop-b-init c = record { adds = adds_none (held c.args.text.now); lent = refl }
 
 pub loop-b-preserved : goal.loop-b-preserved
 loop-b-preserved c =

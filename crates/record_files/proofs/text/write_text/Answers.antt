@@ -1,17 +1,11 @@
-use Rattle.std.proofs.Common.{◌≡◌, ◌+◌, ◌-◌, ◌*◌, ◌/◌, ◌<◌, ◌≤◌, length, take, refl, ap, ◌∙◌, subst, div-lt_iff_lt-mul, le-div_iff_mul-le, arith, length-append, rules}
+use Rattle.std.proofs.Common.{◌≡◌, ◌+◌, ◌-◌, ◌*◌, ◌/◌, ◌<◌, ◌≤◌, length, take, ap, ◌∙◌, subst, div-lt_iff_lt-mul, le-div_iff_mul-le, arith, length-append, rules}
 use Rattle.std.specs.List.{flat_map}
 use Rattle.std.proofs.lemmas.List.{take_all}
 use Rattle.logs.specs.Log.{held, Adds}
 use Rattle.record_files.specs.Text.{record_line, stop_line, text_of}
-use Rattle.logs.proofs.Growth.{adds_none, adds_more}
+use Rattle.logs.proofs.Growth.{adds_more}
 use Rattle.record_files.proofs.Writing.{adds_item, length_lines, printed_through, too_long}
 use Rattle.record_files.proofs.text.write_text.Goals as goal
-
-pub returns-then-out-lt-STOP_LINE : goal.returns-then-out-lt-STOP_LINE
-returns-then-out-lt-STOP_LINE g c =
-    let rs = (held c.args.log.now).made in
-    too_long c.args.out.now (text_of g.R.Record.image rs c.args.stop)
-    (omega (arith, length-append (flat_map (record_line g.R.Record.image) rs) (stop_line c.args.stop)))
 
 pub returns-then-out-WIDTH : goal.returns-then-out-WIDTH
 returns-then-out-WIDTH g c =
@@ -24,9 +18,6 @@ returns-then-out-WIDTH g c =
     let l : length c.args.out.now - 8 < length rs * (w * 2 + 1) = (div-lt_iff_lt-mul p).0 h in
     too_long c.args.out.now (text_of g.R.Record.image rs c.args.stop)
     (omega (arith, length-append (flat_map (record_line g.R.Record.image) rs) (stop_line c.args.stop), length_lines g.R.Record.image w g.R.Record.sized rs))
-
-pub loop-record-init : goal.loop-record-init
-loop-record-init g c = record { adds = adds_none (held c.new-text.result); lent = refl }
 
 pub loop-record-preserved : goal.loop-record-preserved
 loop-record-preserved g c = record {

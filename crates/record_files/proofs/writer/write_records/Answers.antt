@@ -1,8 +1,7 @@
-use Rattle.std.proofs.Common.{◌≡◌, ◌*◌, ◌/◌, ◌<◌, ◌≤◌, true, false, ltb, ◌++◌, length, take, drop, refl, ap, ◌∙◌, subst, div-lt_iff_lt-mul, le-div_iff_mul-le, arith, rules}
+use Rattle.std.proofs.Common.{◌≡◌, ◌*◌, ◌/◌, ◌<◌, ◌≤◌, true, false, ltb, ◌++◌, length, take, drop, ap, ◌∙◌, subst, div-lt_iff_lt-mul, le-div_iff_mul-le, arith, rules}
 use Rattle.std.proofs.lemmas.List.{take_all}
 use Rattle.record_files.specs.File.{file_bytes}
 use Rattle.logs.specs.Log.{held, Adds}
-use Rattle.logs.proofs.Growth.{adds_none}
 use Rattle.record_files.proofs.Writing.{adds_item, length_joined, written_through}
 use Rattle.record_files.proofs.writer.write_records.Goals as goal
 
@@ -14,9 +13,6 @@ returns-then-out-WIDTH g c =
     let l : length c.args.out.now < length (held c.args.log.now).made * g.R.Record.WIDTH = (div-lt_iff_lt-mul g.R.Record.wide).0 h in
     let z : ltb (length c.args.out.now) (length (file_bytes g.R.Record.image (held c.args.log.now).made)) ≡ true = search rules in
     simp z
-
-pub loop-record-init : goal.loop-record-init
-loop-record-init g c = record { adds = adds_none (held c.new-bytes.result); lent = refl }
 
 pub loop-record-preserved : goal.loop-record-preserved
 loop-record-preserved g c = record {
