@@ -70,7 +70,7 @@ const VECTORS: [u16; 5] = [0x0003, 0x000b, 0x0013, 0x001b, 0x0023];
 pub fn vector(source: Source) -> u16
     ensures { result ≡ vector_of source }
 {
-    VECTORS[source as usize]
+    VECTORS[source as usize - 1]
 }
 
 // What a table has for an opcode.

@@ -1,5 +1,5 @@
-use Rattle.std.proofs.Common.{◌≡◌, ℕ, ◌+◌, ◌-◌, ◌*◌, ◌/◌, ◌%◌, Bool, false, List, [], ◌∷◌, get_or, subst, arith}
-use Rattle.arithmetic.proofs.Bytes.{at, same, same_eq}
+use Rattle.std.proofs.Common.{◌≡◌, ℕ, ◌+◌, ◌-◌, ◌*◌, ◌/◌, ◌%◌, Bool, false, List, [], ◌∷◌, get_or, refl, subst, arith}
+use Rattle.std.proofs.lemmas.Bool.{agree_below_at}
 use Rattle.instructions.specs.Tables.{is_register_of}
 use Rattle.instructions.proofs.tables.is_register.Goals as goal
 
@@ -22,4 +22,4 @@ returns-then-address-ge128 c =
     let k = c.args.address in
     let e : 128 + (k - 128) ≡ k = omega arith in
     subst (λ (x : ℕ). looked_up x ≡ is_register_of x) e
-    (same_eq _ _ (at (λ j. same (looked_up (128 + j)) (is_register_of (128 + j))) 128 tt (k - 128) (omega arith)))
+    (agree_below_at (λ j. looked_up (128 + j)) (λ j. is_register_of (128 + j)) 128 (k - 128) refl (omega arith))
