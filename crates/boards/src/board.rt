@@ -11,7 +11,8 @@ pub trait Board {
 
     ghost keeps: { (b : Pins State) → (next b).driven ≡ b.driven };
 
-    // The level byte of a port.
+    // The level byte of a port. Ports are plain numbers here: a rule of the project, every number is answered, and a type would ask more
+    // of callers.
     fn level(&self, port: u8) -> u8
         ensures { result ≡ level_of (pins self.now) port };
 

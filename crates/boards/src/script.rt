@@ -1,7 +1,7 @@
-ghost use Rattle.std.specs.Prelude.{◌≡◌, [], refl};
-ghost use Rattle.outcome.specs.Outcome.{kept};
+ghost use Rattle.std.specs.Prelude.{◌≡◌, [], Ok, refl};
+ghost use Rattle.outcome.specs.Outcome.{kept, then};
 ghost use Rattle.boards.specs.Script.{Playback, Plays, first_is_due, due_before, due_after, put_levels, cycles_in_order, script_start, load_of, script_next};
-ghost use Rattle.boards.specs.Played.{played_by};
+ghost use Rattle.boards.specs.Played.{played_by, built};
 
 use crate::board::Board;
 pub use crate::playback::Script;
@@ -20,6 +20,15 @@ impl<'a> Script<'a> {
             rest: &[],
             pins: PortPins::new(),
         }
+    }
+
+    // A board that plays these records from the start, or the refusal of a cycle below the one before.
+    pub fn playing(records: &'a [PinRecord]) -> Result<Script<'a>, Refusal>
+        ensures { built result ≡ then (load_of records.now) (λ x. Ok x.1) }
+    {
+        let mut board = Script::new();
+        board.load(records)?;
+        Ok(board)
     }
 
     // Makes it a board that plays these records from the start, or refuses a cycle below the one before.

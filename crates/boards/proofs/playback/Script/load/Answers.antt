@@ -14,8 +14,8 @@ invariant_of-self c =
       current = c.advance.ensures.levels ∙ ap (λ p. put_levels p.levels (due_before 0 rs)) c.new.ensures ∙ start.current;
     }
 
-pub returns-then-not-in_order : goal.returns-then-not-in_order
-returns-then-not-in_order c = record { value = search rules; plays = plays c.args.records.now }
+pub returns-then-not-in_order-clause-plays : goal.returns-then-not-in_order-clause-plays
+returns-then-not-in_order-clause-plays c = plays c.args.records.now
 
-pub returns : goal.returns
-returns c = record { value = search rules; plays = plays c.args.records.now }
+pub returns-clause-plays : goal.returns-clause-plays
+returns-clause-plays c = plays c.args.records.now
