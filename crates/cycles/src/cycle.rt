@@ -41,6 +41,7 @@ fn is_quiet(timers: &Timers, scon: u8, pins: u8) -> bool
 
 impl Machine {
     // Accepts a request of the sample of the cycle before, or none.
+    #[tactic(auto, unfolding(crate::specs::Cycle::polled_of))]
     fn poll(&mut self)
         ensures { state_of self.new ≡ polled_of (state_of self.old) }
     {
@@ -63,6 +64,7 @@ impl Machine {
         self.cycles = self.cycles.wrapping_add(1);
     }
 
+    #[tactic(auto, unfolding(crate::specs::Cycle::ticked_of))]
     fn work(&mut self, pins: u8)
         ensures { state_of self.new ≡ ticked_of pins (state_of self.old) }
     {
@@ -84,6 +86,7 @@ impl Machine {
     }
 
     // One machine cycle; the last cycle of a step polls, if the step does.
+    #[tactic(auto, unfolding(crate::specs::Cycle::cycle_of))]
     pub fn cycle<D: Board>(&mut self, board: &mut D, polls: bool)
         ensures { (state_of self.new, D.pins board.new) ≡ cycle_of D.next polls (state_of self.old, D.pins board.old) }
     {

@@ -53,8 +53,7 @@ fn count_sixteen(timer: &mut Timer) -> bool
     ensures { (result, timer.new) ≡ count_sixteen timer.old }
 {
     let count = word(timer.high, timer.low).wrapping_add(1);
-    timer.low = (count % 256) as u8;
-    timer.high = (count / 256) as u8;
+    [timer.high, timer.low] = count.to_be_bytes();
     count == 0
 }
 
@@ -83,7 +82,8 @@ impl Mode {
     }
 }
 
-// One timer of the table is lent and counted. A trait, since Timers is a type of another crate.
+// One timer of the table is lent and counted, through `&mut self` of the timers: a rule of the project, a form that was asked for
+// (docs/DECISIONS.md). It is a trait, since Timers is a type of another crate.
 trait Counting {
     ghost counted: { ℕ → Mode → Self → Bool × Self };
 

@@ -67,6 +67,7 @@ fn enter(registers: &mut Registers, address: u16) -> Result<(), Fault>
 
 impl Machine {
     // The vector call of an accepted request, before its cycles.
+    #[tactic(auto, unfolding(crate::specs::Vector::vector_call_of))]
     pub fn vector_call(&mut self, request: Request) -> Result<(), Fault>
         ensures { (result, state_of self.new) ≡ kept (state_of self.old) (vector_call_of request (state_of self.old)) }
     {

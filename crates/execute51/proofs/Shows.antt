@@ -1,7 +1,7 @@
 -- Every accepted instruction shows what specs/Laws.antt says.
 use Rattle.std.proofs.Common.{◌≡◌, ℕ, ◌+◌, ◌*◌, ◌/◌, ◌<◌, ◌≤◌, Bool, true, false, cond, not, ◌&&◌, ◌||◌, eqb, ltb, ◌≢◌, List, is_some, Some, None, Ok, Err, Option, Result, sym, refl, ap, ◌∙◌, subst, inl, inr, arith}
 use Rattle.std.proofs.lemmas.Bool.Decides.{nat_tests}
-use Rattle.std.proofs.lemmas.Bool.{cases_lt, cases_eq, eq-eqb, ne_eqb, cond_both}
+use Rattle.std.proofs.lemmas.Bool.{cases_lt, cases_eq, eq-eqb, ne_eqb, cond_both, agree_below_at}
 use Rattle.outcome.specs.Outcome.{kept, then}
 use Rattle.records.specs.declared.ports.Port.{Port}
 use Rattle.boards.specs.Board.{Pins}
@@ -26,7 +26,6 @@ use Rattle.instructions.specs.declared.Instruction.TheVariants.{Arithmetic, Logi
 use Rattle.instructions.specs.Decode.{decode_of, decode_steps}
 use Rattle.instructions.specs.Operands.{operands_of, of_arithmetic, of_logical, of_transfer, of_boolean, of_control, is_ie_or_ip, is_reti_of, has_ie_or_ip, polls_of}
 use Rattle.instructions.specs.Tables.{cycles_of, is_register_of}
-use Rattle.arithmetic.proofs.Bytes.{holds_at}
 use Rattle.instructions.proofs.TablesHold.{cycles_hold, refused_hold, unpolled_hold}
 use Rattle.core51.specs.declared.fault.Fault.{Fault}
 use Rattle.core51.specs.declared.fault.Fault.TheVariants.{NoRegister, NoRam}
@@ -425,17 +424,10 @@ abbrev is_reti_any : Option Instruction → Bool
 is_reti_any (Some i) = is_reti_of i
 is_reti_any None = false
 
-same_tests : (a b : Bool) → cond a b (not b) ≡ true → a ≡ b
-same_tests true b h = sym h
-same_tests false true h = h
-same_tests false false h = refl
-
 reti_decoded : (op x y : ℕ) (i : Instruction) → decode_of op x y ≡ Some i → op < 256 → is_reti_of i ≡ eqb op 0x32
 unfolding decode_of
 reti_decoded op x y i e h =
-    sym (ap is_reti_any e)
-    ∙ same_tests (is_reti_any (decode_steps op x y)) (eqb op 0x32)
-    (holds_at (λ n. cond (is_reti_any (decode_steps n x y)) (eqb n 0x32) (not (eqb n 0x32))) 256 tt op h)
+    sym (ap is_reti_any e) ∙ agree_below_at (λ n. is_reti_any (decode_steps n x y)) (λ n. eqb n 0x32) 256 op refl h
 
 -- all that an accepted instruction shows
 abbrev pub ShownAt : Chip → Memory → Told × (Chip × Memory) → Type 0

@@ -22,12 +22,13 @@ Inside = Option ℕ × (ℕ → Bool) × (ℕ → Option ℕ)
 abbrev Ready : ℕ → ℕ → View → Type 0
 Ready ℓ s x = (x.sampled s ≡ true) × (x.shown.enabled s ≡ true) × (x.shown.level s ≡ ℓ)
 
-module _ {W : Type 0} (c : Parts W) (ℓ M m : ℕ) (law : PartsLaw c ℓ M m) where
-  -- the number of the closings, and the last of them
-  closings_length : (n : ℕ) (p : Bool) (w : W) → length (closings c n p w) ≡ suc n
-  closings_length zero p w = refl
-  closings_length (suc n) p w = ap suc (closings_length n p (c.tick w))
+-- the number of the closings
+pub closings_length : {W : Type 0} (c : Parts W) (n : ℕ) (p : Bool) (w : W) → length (closings c n p w) ≡ suc n
+closings_length c zero p w = refl
+closings_length c (suc n) p w = ap suc (closings_length c n p (c.tick w))
 
+module _ {W : Type 0} (c : Parts W) (ℓ M m : ℕ) (law : PartsLaw c ℓ M m) where
+  -- the last of the closings
   closings_last : (n : ℕ) (p : Bool) (b : Closing) (w : W) → (c.view (last_cycle c p (silent c n w))).shown ≡ last b (closings c n p w)
   closings_last zero p b w = refl
   closings_last (suc n) p b w = closings_last n p (c.view (c.tick w)).shown (c.tick w)
@@ -100,8 +101,8 @@ module _ {W : Type 0} (c : Parts W) (ℓ M m : ℕ) (law : PartsLaw c ℓ M m) w
     step_law : StepLaw ℓ M m (c.view w) made (c.view end)
     step_law = record {
       calls = cl.calls;
-      some_cycle = rw (closings_length n (polls k) u) (omega arith);
-      lasts = rw (closings_length n (polls k) u) cl.lasts;
+      some_cycle = rw (closings_length c n (polls k) u) (omega arith);
+      lasts = rw (closings_length c n (polls k) u) cl.lasts;
       marks = subst (Marked k (c.view w).shown.serving) (sym (all_marks n (polls k) u)) cl.marks;
       steady = steady n (polls k) u (c.view end).shown.serving (sym (all_marks n (polls k) u));
       closes = closings_last n (polls k) (c.view w).shown u;
