@@ -12,7 +12,7 @@ pub struct Levels {
 
 impl Levels {
     // A board of these levels.
-    pub fn new(levels: [u8; 4]) -> Levels {
+    pub(crate) fn new(levels: [u8; 4]) -> Levels {
         Levels {
             pins: PortPins {
                 levels,

@@ -9,8 +9,9 @@ use crate::table::Code;
 use boards::board::Board;
 use buses::{Bus, SplitBus};
 use core51::parity::Core;
-use core51::state::{Chip, Control, Registers, Serial, Timer, Timers};
+use core51::state::Registers;
 use execute51::execute::execute;
+use step51::reset::fresh_chip;
 
 const CODE: usize = 1024;
 
@@ -19,19 +20,8 @@ fn core(mut registers: Registers) -> Core
     ensures { result.chip.registers ≡ settled_of registers }
 {
     registers.settle();
-    let timer = Timer { low: 0, high: 0 };
     Core {
-        chip: Chip {
-            registers,
-            timers: Timers {
-                table: [timer; 2],
-                tcon: 0,
-                tmod: 0,
-                pins: 0xff,
-            },
-            control: Control { ie: 0, ip: 0 },
-            serial: Serial { scon: 0, sbuf: 0 },
-        },
+        chip: fresh_chip(registers),
     }
 }
 

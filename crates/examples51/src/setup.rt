@@ -4,6 +4,7 @@ ghost use Rattle.std.specs.Prelude.{◌≡◌, is_some, nat_lt};
 use arithmetic::bits::with_bit;
 use core51::state::Registers;
 use records::ports::Port;
+use step51::reset::fresh_registers;
 
 // A byte that a line of the table can name.
 #[derive(Clone, Copy)]
@@ -43,17 +44,7 @@ impl Setup {
     // The state after a reset.
     pub fn reset() -> Setup {
         Setup {
-            registers: Registers {
-                a: 0,
-                b: 0,
-                psw: 0,
-                sp: 7,
-                dpl: 0,
-                dph: 0,
-                latches: [0xff; 4],
-                pc: 0,
-                ram: [0; 128],
-            },
+            registers: fresh_registers([0; 128]),
             levels: [0xff; 4],
             external: [0; 256],
             steps: None,

@@ -3,6 +3,7 @@ use Rattle.std.specs.Prelude.{ℕ, false, List, replicate, None}
 use Rattle.boards.specs.Board.{Pins, drive_of}
 use Rattle.core51.specs.declared.state.Registers.{Registers}
 use Rattle.core51.specs.declared.state.Timers.{Timers}
+use Rattle.core51.specs.declared.state.Chip.{Chip}
 use Rattle.cycles.specs.declared.machine.Interrupts.{Interrupts}
 use Rattle.cycles.specs.State.{State}
 use Rattle.step51.specs.World.{World, world}
@@ -25,6 +26,15 @@ reset_registers ram = record {
 abbrev pub fresh_timers : Timers
 fresh_timers = record { table = replicate 2 (record { low = 0; high = 0 }); tcon = 0; tmod = 0; pins = 255 }
 
+-- all but the registers of the processor
+abbrev pub fresh_chip : Registers → Chip
+fresh_chip r = record {
+  registers = r;
+  timers = fresh_timers;
+  control = record { ie = 0; ip = 0 };
+  serial = record { scon = 0; sbuf = 0 };
+}
+
 -- no service in progress, no accepted request, nothing sampled
 abbrev pub fresh_interrupts : Interrupts
 fresh_interrupts = record {
@@ -36,12 +46,7 @@ fresh_interrupts = record {
 -- the state after a reset, with this RAM and no cycle counted
 abbrev pub fresh_state : List ℕ → State
 fresh_state ram = record {
-  chip = record {
-    registers = reset_registers ram;
-    timers = fresh_timers;
-    control = record { ie = 0; ip = 0 };
-    serial = record { scon = 0; sbuf = 0 };
-  };
+  chip = fresh_chip (reset_registers ram);
   interrupts = fresh_interrupts;
   cycles = 0;
 }

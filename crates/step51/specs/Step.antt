@@ -20,7 +20,7 @@ use Rattle.step51.specs.World.{World, world}
 use Rattle.step51.specs.Action.{count_of, polls_of, port_of, trace_of}
 
 abbrev pub with_chip : State → Chip → State
-with_chip s c = record { chip = c; interrupts = s.interrupts; cycles = s.cycles }
+with_chip s c = record s { chip = c }
 
 -- RETI also ends a service
 abbrev pub ended_if : Bool → State → State

@@ -1,7 +1,7 @@
 // The new machine and the reset.
 ghost use Rattle.std.specs.Prelude.{◌≡◌, replicate};
 ghost use Rattle.cycles.specs.State.{state_of};
-ghost use Rattle.step51.specs.Reset.{reset_registers, fresh_timers, fresh_interrupts, fresh_state, all_high, reset_state};
+ghost use Rattle.step51.specs.Reset.{reset_registers, fresh_timers, fresh_chip, fresh_interrupts, fresh_state, all_high, reset_state};
 
 use boards::board::Board;
 use core51::parity::Core;
@@ -36,11 +36,11 @@ fn fresh_interrupts() -> Interrupts
     }
 }
 
-// A new machine: registers as after a reset, and all RAM bytes 00H.
-pub fn new_machine() -> Machine
-    ensures { state_of result ≡ fresh_state (replicate 128 0) }
+// The registers of the processor after a reset, with this RAM.
+pub fn fresh_registers(ram: [u8; 128]) -> Registers
+    ensures { result ≡ reset_registers ram }
 {
-    let registers = Registers {
+    Registers {
         a: 0,
         b: 0,
         psw: 0,
@@ -49,46 +49,47 @@ pub fn new_machine() -> Machine
         dph: 0,
         latches: [0xFF; 4],
         pc: 0,
-        ram: [0; 128],
-    };
+        ram,
+    }
+}
+
+// The chip after a reset, but for these registers.
+pub fn fresh_chip(registers: Registers) -> Chip
+    ensures { result ≡ fresh_chip registers }
+{
+    Chip {
+        registers,
+        timers: fresh_timers(),
+        control: Control { ie: 0, ip: 0 },
+        serial: Serial { scon: 0, sbuf: 0 },
+    }
+}
+
+// The machine after a reset, with this RAM.
+fn fresh_machine(ram: [u8; 128]) -> Machine
+    ensures { state_of result ≡ fresh_state ram }
+{
     Machine {
         core: Core {
-            chip: Chip {
-                registers,
-                timers: fresh_timers(),
-                control: Control { ie: 0, ip: 0 },
-                serial: Serial { scon: 0, sbuf: 0 },
-            },
+            chip: fresh_chip(fresh_registers(ram)),
         },
         interrupts: fresh_interrupts(),
         cycles: 0,
     }
 }
 
-// All registers of the processor but the RAM.
-fn reset_registers(registers: &mut Registers)
-    ensures { registers.new ≡ reset_registers registers.old.ram }
+// A new machine: registers as after a reset, and all RAM bytes 00H.
+pub fn new_machine() -> Machine
+    ensures { state_of result ≡ fresh_state (replicate 128 0) }
 {
-    registers.a = 0;
-    registers.b = 0;
-    registers.psw = 0;
-    registers.sp = 7;
-    registers.dpl = 0;
-    registers.dph = 0;
-    registers.latches = [0xFF; 4];
-    registers.pc = 0;
+    fresh_machine([0; 128])
 }
 
-// The machine after a reset, in place; the RAM stays.
+// The machine after a reset; the RAM stays.
 pub fn reset_machine(machine: &mut Machine)
     ensures { state_of machine.new ≡ reset_state (state_of machine.old) }
 {
-    reset_registers(&mut machine.core.chip.registers);
-    machine.core.chip.timers = fresh_timers();
-    machine.core.chip.control = Control { ie: 0, ip: 0 };
-    machine.core.chip.serial = Serial { scon: 0, sbuf: 0 };
-    machine.interrupts = fresh_interrupts();
-    machine.cycles = 0;
+    *machine = fresh_machine(machine.core.chip.registers.ram);
 }
 
 // Drives FFH to all four ports.

@@ -18,7 +18,8 @@ use records::traces::{Cycles, TraceRecord};
 // A step begins after at most so many machine cycles.
 const LAST_START: u32 = 3_999_999_996;
 
-// The vector call of the accepted request, or the instruction at PC.
+// The vector call of the accepted request, or the instruction at PC. Machine, bus and board are parameters of their own: a rule of the
+// project, bus and board stand beside the core.
 #[tactic(auto, unfolding(crate::specs::Step::act_of))]
 fn act<B: Bus, D: Board>(machine: &mut Machine, bus: &mut B, board: &D) -> Result<Action, Fault>
     ensures { (result, (state_of machine.new, B.memory bus.new)) ≡ kept (state_of machine.old, B.memory bus.old) (act_of (D.pins board.now) (state_of machine.old) (B.memory bus.old)) }
@@ -64,15 +65,11 @@ fn begin<B: Bus, D: Board>(
     Ok(action)
 }
 
-// The machine cycles of a step, as a trace record names them.
+// The machine cycles of a step, as a trace record names them: no step has another count.
 fn cycles_named(count: u8) -> Cycles
     ensures { result ≡ cycles_named count }
 {
-    match count {
-        1 => Cycles::One,
-        2 => Cycles::Two,
-        _ => Cycles::Four,
-    }
+    Cycles::try_from(count).unwrap_or(Cycles::Four)
 }
 
 // The trace record of a step that began at an address and is complete.

@@ -5,7 +5,7 @@ ghost use Rattle.step51.specs.Stop.{stop_number};
 
 use core51::fault::Fault;
 
-#[derive(Clone, Copy)]
+#[derive(Clone, Copy, PartialEq, Eq, Debug)]
 pub enum Stop {
     // a run above the most steps
     TooManySteps,
