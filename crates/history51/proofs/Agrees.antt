@@ -1,5 +1,5 @@
 -- The step of the law is the step of the contracts.
-use Rattle.std.proofs.Common.{◌≡◌, ℕ, zero, suc, ◌-◌, Bool, true, false, length, Ok, Err, Result, sym, refl, ap, ◌∙◌, arith}
+use Rattle.std.proofs.Common.{◌≡◌, ℕ, zero, suc, ◌-◌, Bool, true, false, Ok, Err, Result, sym, refl, ap, ◌∙◌, arith}
 use Rattle.outcome.specs.Outcome.{kept, then}
 use Rattle.boards.specs.Board.{Pins}
 use Rattle.buses.specs.Memory.{Memory}
@@ -12,7 +12,8 @@ use Rattle.step51.specs.World.{World, world}
 use Rattle.step51.specs.Action.{count_of, polls_of}
 use Rattle.step51.specs.Step.{Done, begin_of, completed, step_of}
 use Rattle.history.specs.Events.{polls}
-use Rattle.history.specs.Cycles.{silent as law_silent, last_cycle, closings, outcome}
+use Rattle.history.specs.Cycles.{silent as law_silent, last_cycle, outcome}
+use Rattle.history.proofs.Cycles.{closings_length}
 use Rattle.history51.specs.Life.{kind_of, decided, ticked, parts, living}
 use Rattle.history51.specs.Agrees.{Agree, StepLives}
 use Rattle.history51.proofs.Labels.{Labelled}
@@ -43,10 +44,6 @@ module _ {S : Type 0} (next : Pins S → Pins S) where
   cycles_agree n p w =
       sym (ap (last_cycle (parts next) p) (silent_agree (n - 1) w) ∙ last_agrees p w.memory (silent next (n - 1) (w.state, w.pins)))
 
-  closings_count : (n : ℕ) (p : Bool) (w : World S) → length (closings (parts next) n p w) ≡ suc n
-  closings_count zero p w = refl
-  closings_count (suc n) p w = ap suc (closings_count n p (ticked next w))
-
   begun_agrees : (w : World S) (r : Result (Action × World S) Fault) → All (Begun w) r →
       let e : Result (Done × World S) Fault = then r (λ x. Ok (completed w.state.chip.registers.pc x.0 x.1.memory (cycles_of next (count_of x.0) (polls_of x.0) (x.1.state, x.1.pins)))) in
       Agree w (outcome (parts next) (decided r)) (kept w e).0 (kept w e).1
@@ -57,7 +54,7 @@ module _ {S : Type 0} (next : Pins S → Pins S) where
         state = cycles_agree n (polls_of x.0) x.1
             ∙ ap (λ (p : Bool). last_cycle (parts next) p (law_silent (parts next) (n - 1) x.1)) (sym l.same_polls);
         cycles =
-            let c = closings_count (n - 1) (polls (kind_of x.0)) x.1 in
+            let c = closings_length (parts next) (n - 1) (polls (kind_of x.0)) x.1 in
             let s = l.some in
             let e = l.named in
             omega arith;

@@ -1,5 +1,6 @@
 -- The poll accepts a high request that was sampled and is enabled, and none whose level is in service.
-use Rattle.std.proofs.Common.{◌≡◌, ℕ, zero, suc, Bool, true, false, cond, ◌&&◌, is_some, Some, None, Option, refl, arith}
+use Rattle.std.proofs.Common.{◌≡◌, ℕ, zero, suc, Bool, true, false, cond, is_some, Some, None, Option, refl, arith}
+use Rattle.std.proofs.lemmas.Bool.{and_from, and_parts}
 use Rattle.records.specs.declared.traces.Source.{Source}
 use Rattle.records.specs.declared.traces.Marks.{Marks}
 use Rattle.arithmetic.specs.Bits.{bit_of}
@@ -17,26 +18,14 @@ use Rattle.history.specs.Marks.{contra, some_none}
 use Rattle.history51.specs.View.{among, sources_of, pending_of, serving_of, view_of}
 use Rattle.history51.specs.Life.{polled}
 
-both_true : (a b : Bool) → a ≡ true → b ≡ true → (a && b) ≡ true
-both_true true b e f = f
-both_true false b e f = e
-
-left_true : (a b : Bool) → (a && b) ≡ true → a ≡ true
-left_true true b e = refl
-left_true false b e = e
-
-right_true : (a b : Bool) → (a && b) ≡ true → b ≡ true
-right_true true b e = e
-right_true false b e = contra e refl
-
 -- a source that is in a set and has its bit in a byte is in the masked set
 among_masked : (x : Sample) (byte s : ℕ) → among x s ≡ true → among (sources_of byte) s ≡ true → among (masked_of x byte) s ≡ true
 among_masked x byte zero h k = h
-among_masked x byte (suc zero) h k = both_true x.external0 (bit_of byte 0) h k
-among_masked x byte (suc (suc zero)) h k = both_true x.timer0 (bit_of byte 1) h k
-among_masked x byte (suc (suc (suc zero))) h k = both_true x.external1 (bit_of byte 2) h k
-among_masked x byte (suc (suc (suc (suc zero)))) h k = both_true x.timer1 (bit_of byte 3) h k
-among_masked x byte (suc (suc (suc (suc (suc zero))))) h k = both_true x.serial (bit_of byte 4) h k
+among_masked x byte (suc zero) h k = and_from x.external0 (bit_of byte 0) h k
+among_masked x byte (suc (suc zero)) h k = and_from x.timer0 (bit_of byte 1) h k
+among_masked x byte (suc (suc (suc zero))) h k = and_from x.external1 (bit_of byte 2) h k
+among_masked x byte (suc (suc (suc (suc zero)))) h k = and_from x.timer1 (bit_of byte 3) h k
+among_masked x byte (suc (suc (suc (suc (suc zero))))) h k = and_from x.serial (bit_of byte 4) h k
 among_masked x byte (suc (suc (suc (suc (suc (suc n)))))) h k = h
 
 nowhere : (s : ℕ) → among (requests false false false false false) s ≡ false
@@ -98,10 +87,11 @@ poll_law w =
       same_marks = refl;
       same_memory = refl;
       accepts = λ s a b l d.
-          (let y = masked_of (masked_of x ie) ip in
-          let asks = among_masked x ie s a (right_true (bit_of ie 7) (among (sources_of ie) s) b) in
+          (let on = and_parts (bit_of ie 7) (among (sources_of ie) s) b in
+          let y = masked_of (masked_of x ie) ip in
+          let asks = among_masked x ie s a on.1 in
           let high = among_masked (masked_of x ie) ip s asks (at_high (among (sources_of ip) s) l) in
-          all_enabled (bit_of ie 7) (unless_barred m (taken_of (masked_of x ie) ip)) (left_true (bit_of ie 7) (among (sources_of ie) s) b)
+          all_enabled (bit_of ie 7) (unless_barred m (taken_of (masked_of x ie) ip)) on.0
           (accepts_high (first_of y) (first_of (masked_of x ie)) m (first_there y.external0 y.timer0 y.external1 y.timer1 y.serial s high) d));
       bars = bars_all (bit_of ie 7) m (taken_of (masked_of x ie) ip);
     }

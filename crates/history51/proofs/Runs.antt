@@ -1,6 +1,7 @@
 -- The run of the law is the run of the contracts.
 use Rattle.std.proofs.Common.{◌≡◌, ℕ, zero, suc, ◌+◌, Bool, true, false, cond, eqb, ltb, List, [], ◌∷◌, length, drop, is_some, Some, None, Ok, Err, Option, Result, refl, ap, ◌∙◌, subst, arith, length-drop}
 use lib.Dec.{eqb-suc-zero}
+use Rattle.std.proofs.lemmas.Bool.{eq-eqb}
 use Rattle.outcome.specs.Outcome.{kept}
 use Rattle.logs.specs.Log.{Entries, entered}
 use Rattle.records.specs.declared.port_writes.PortRecord.{PortRecord}
@@ -16,9 +17,6 @@ use Rattle.history51.specs.Agrees.{Agree, RunLives}
 use Rattle.history51.proofs.Agrees.{step_lives}
 
 -- the free places of a log
-full_at : (n : ℕ) → n ≡ 0 → eqb n 0 ≡ true
-full_at n e = rw e refl
-
 room_at : (n k : ℕ) → n ≡ suc k → eqb n 0 ≡ false
 room_at n k e = rw e (eqb-suc-zero k)
 
@@ -70,8 +68,8 @@ module _ {S : Type 0} (next : Pins S → Pins S) where
 
   runs : (n : ℕ) → Runs n
   runs zero i s t p e f = record { state = refl; steps = omega arith }
-  runs (suc n) i s zero p e f = stops n i s (rw (full_at (length s.traces.free) e) refl)
-  runs (suc n) i s (suc t) zero e f = stops n i s (rw (room_at (length s.traces.free) t e, full_at (length s.ports.free) f) refl)
+  runs (suc n) i s zero p e f = stops n i s (rw (eq-eqb (length s.traces.free) 0 e) refl)
+  runs (suc n) i s (suc t) zero e f = stops n i s (rw (room_at (length s.traces.free) t e, eq-eqb (length s.ports.free) 0 f) refl)
   runs (suc n) i s (suc t) (suc p) e f =
       goes n i s (law_run (suc n) (suc t) (suc p) s.at) (rw (room_at (length s.traces.free) t e, room_at (length s.ports.free) p f) refl)
       (turned n (runs n) i s t p e f ((living next).stepped s.at) (step_of next s.at) (step_lives next s.at))

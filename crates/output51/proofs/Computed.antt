@@ -6,7 +6,6 @@ use Rattle.core51.specs.Places.{get_of, put_of, latch_of, write_of}
 use Rattle.execute51.specs.Fetch.{fetch_of}
 use Rattle.execute51.specs.Effect.{effect_of}
 use Rattle.execute51.specs.Execute.{perform_of, instruction_of, execute_of}
-use Rattle.execute51.specs.Cases.{Calls, Ports}
 use Rattle.cycles.specs.Cycle.{tick_of, ticked_of, polled_of, cycle_of, cycles_of}
 use Rattle.cycles.specs.Vector.{vector_call_of}
 use Rattle.cycles.specs.Laws.{Overflows}
@@ -22,14 +21,6 @@ add_overflow = refl
 pub add_carry : added 0xff 0x01 ≡ Ok (0x00 ∷ 1 ∷ 1 ∷ 0 ∷ [])
 unfolding ones ones_in decode_of get_of put_of latch_of write_of effect_of fetch_of perform_of instruction_of execute_of
 add_carry = refl
-
-pub calls : Calls
-unfolding ones ones_in decode_of get_of put_of latch_of write_of effect_of fetch_of perform_of instruction_of execute_of
-calls = (refl, refl, refl)
-
-pub ports : Ports
-unfolding ones ones_in decode_of get_of put_of latch_of write_of effect_of fetch_of perform_of instruction_of execute_of
-ports = (refl, refl, refl)
 
 pub overflows : Overflows
 overflows = record {

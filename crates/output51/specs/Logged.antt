@@ -12,7 +12,7 @@ use Rattle.boards.specs.Script.{Playback}
 use Rattle.step51.specs.Run.{Session}
 use Rattle.output51.specs.declared.output.NotRun.{NotRun}
 use Rattle.output51.specs.declared.output.NotRun.TheVariants.{Bus, Pins}
-use Rattle.output51.specs.Output.{pins_traced}
+use Rattle.output51.specs.Output.{pins_traced_into}
 
 abbrev pub not_run_number : NotRun → ℕ
 not_run_number (Bus refusal) = bus_number_of refusal
@@ -31,6 +31,6 @@ abbrev pub by_pins : {A : Type 0} → Result A Refusal → Result A NotRun
 by_pins (Ok x) = Ok x
 by_pins (Err e) = Err (Pins e)
 
--- on a split bus; a memory of no byte is refused before the pin file is looked at
-abbrev pub split_logged : List ℕ → List ℕ → List ℕ → Result (ℕ × Entries TraceRecord) NotRun
-split_logged code store pins = cond (has_size code && has_size store) (by_pins (logged (pins_traced (split code store) pins))) (Err (Bus MemorySize))
+-- into a trace log, on a split bus; a memory of no byte is refused before the pin file is looked at
+abbrev pub split_logged : Entries TraceRecord → List ℕ → List ℕ → List ℕ → Result (ℕ × Entries TraceRecord) NotRun
+split_logged traces code store pins = cond (has_size code && has_size store) (by_pins (logged (pins_traced_into traces (split code store) pins))) (Err (Bus MemorySize))

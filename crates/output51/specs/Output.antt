@@ -34,17 +34,27 @@ trace_log = empty (replicate 64 (record { kind = Instruction 0; pc = 0; cycles =
 abbrev pub port_log : Entries PortRecord
 port_log = empty (replicate 64 (record { port = P0; byte = 0; step = 0 }))
 
--- a run of 64 of a new core on a bus and a script board
-abbrev pub ran : Memory → Pins Playback → (ℕ × ℕ) × Session Playback
-ran m board = run_of script_next 64 (session (world (fresh_state (replicate 128 0)) m board) trace_log port_log)
+-- a run of 64 of a new core on a bus and a script board, into this trace log
+abbrev pub ran_into : Entries TraceRecord → Memory → Pins Playback → (ℕ × ℕ) × Session Playback
+ran_into traces m board = run_of script_next 64 (session (world (fresh_state (replicate 128 0)) m board) traces port_log)
 
 -- the same on a board that plays these records, unless they are refused
-abbrev pub traced : Memory → List PinRecord → Result ((ℕ × ℕ) × Session Playback) Refusal
-traced m records = then (load_of records) (λ board. Ok (ran m board.1))
+abbrev pub traced_into : Entries TraceRecord → Memory → List PinRecord → Result ((ℕ × ℕ) × Session Playback) Refusal
+traced_into traces m records = then (load_of records) (λ board. Ok (ran_into traces m board.1))
 
 -- the same with the records of a file, unless it is refused
+abbrev pub pins_traced_into : Entries TraceRecord → Memory → List ℕ → Result ((ℕ × ℕ) × Session Playback) Refusal
+pins_traced_into traces m file = then (file_records 8 pin_taken pin_ordered file) (traced_into traces m)
+
+-- the three into an empty log
+abbrev pub ran : Memory → Pins Playback → (ℕ × ℕ) × Session Playback
+ran = ran_into trace_log
+
+abbrev pub traced : Memory → List PinRecord → Result ((ℕ × ℕ) × Session Playback) Refusal
+traced = traced_into trace_log
+
 abbrev pub pins_traced : Memory → List ℕ → Result ((ℕ × ℕ) × Session Playback) Refusal
-pins_traced m file = then (file_records 8 pin_taken pin_ordered file) (traced m)
+pins_traced = pins_traced_into trace_log
 
 -- a line a trace record and the number that stopped the run; a refusal has the last line only
 abbrev pub text : Result ((ℕ × ℕ) × Session Playback) Refusal → List ℕ

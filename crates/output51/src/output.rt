@@ -4,7 +4,7 @@ ghost use Rattle.outcome.specs.Outcome.{kept};
 ghost use Rattle.logs.specs.Log.{held};
 ghost use Rattle.record_files.specs.Text.{printed};
 ghost use Rattle.output51.specs.declared.output.NotRun.TheVariants.{Bus, Pins};
-ghost use Rattle.output51.specs.Output.{front, trace_log, traced, pins_traced, output_of};
+ghost use Rattle.output51.specs.Output.{front, traced_into, pins_traced_into, output_of};
 ghost use Rattle.output51.specs.Logged.{not_run_number, answered, logged, split_logged};
 
 use boards::script::Script;
@@ -19,7 +19,7 @@ use records::refusals::Refusal;
 use records::traces::TraceRecord;
 
 // The bytes of a file that count, and the pin records that they can be.
-const FILE_BYTES: usize = 4096;
+pub const FILE_BYTES: usize = 4096;
 
 const PINS: usize = 512;
 
@@ -73,18 +73,16 @@ impl From<NotRun> for u8 {
     }
 }
 
-// Runs a new core on a bus and on a board that plays these pin records, into an empty trace log, and answers the number that stopped the
+// Runs a new core on a bus and on a board that plays these pin records, into a trace log, and answers the number that stopped the
 // run, 0 if none.
 fn run_with_records<B: Bus>(
     bus: &mut B,
     records: &[PinRecord],
     traces: &mut Log<'_, TraceRecord>,
 ) -> Result<u8, Refusal>
-    requires { held traces.old ≡ trace_log }
-    ensures { (result, held traces.new) ≡ kept (held traces.old) (logged (traced (B.memory bus.old) records.now)) }
+    ensures { (result, held traces.new) ≡ kept (held traces.old) (logged (traced_into (held traces.old) (B.memory bus.old) records.now)) }
 {
-    let mut board = Script::new();
-    board.load(records)?;
+    let mut board = Script::playing(records)?;
     let mut places = [PortRecord::BLANK; PLACES];
     let mut ports = Log::new(&mut places);
     let mut core = Panel51::new();
@@ -98,9 +96,8 @@ fn run_with_pins<B: Bus>(
     pins: &[u8],
     traces: &mut Log<'_, TraceRecord>,
 ) -> Result<u8, Refusal>
-    requires pins { length pins.now ≤ 4096 }
-    requires empty { held traces.old ≡ trace_log }
-    ensures { (result, held traces.new) ≡ kept (held traces.old) (logged (pins_traced (B.memory bus.old) pins.now)) }
+    requires { length pins.now ≤ 4096 }
+    ensures { (result, held traces.new) ≡ kept (held traces.old) (logged (pins_traced_into (held traces.old) (B.memory bus.old) pins.now)) }
 {
     let mut places = [PinRecord::BLANK; PINS];
     let mut records = Log::new(&mut places);
@@ -115,9 +112,8 @@ fn run_files<'a>(
     pins: &[u8],
     traces: &mut Log<'_, TraceRecord>,
 ) -> Result<u8, NotRun>
-    requires pins { length pins.now ≤ 4096 }
-    requires empty { held traces.old ≡ trace_log }
-    ensures { (result, held traces.new) ≡ kept (held traces.old) (split_logged code.now «data».old pins.now) }
+    requires { length pins.now ≤ 4096 }
+    ensures { (result, held traces.new) ≡ kept (held traces.old) (split_logged (held traces.old) code.now «data».old pins.now) }
 {
     match SplitBus::new(code, data) {
         Ok(mut bus) => Ok(run_with_pins(&mut bus, pins, traces)?),

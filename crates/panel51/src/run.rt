@@ -35,7 +35,8 @@ fn note(ports: &mut Log<'_, PortRecord>, i: u32, write: Option<PortWrite>)
 }
 
 impl Panel51 {
-    // One step entered in the logs, or why the run stops before it.
+    // One step entered in the logs, or why the run stops before it. Bus, board and logs are parameters of their own, as those of run: a
+    // rule of the project, they stand beside the core.
     fn turn<B: Bus, D: Board>(
         &mut self,
         bus: &mut B,
@@ -57,7 +58,7 @@ impl Panel51 {
     }
 
     // Makes up to n steps, each entered in the trace log, and each port write in the port log. It answers the steps made and the
-    // number that stopped it, 0 if none.
+    // number that stopped it, 0 if none: a rule of the project, a pair of plain numbers.
     pub fn run<B: Bus, D: Board>(
         &mut self,
         bus: &mut B,

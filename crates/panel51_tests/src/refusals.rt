@@ -6,12 +6,7 @@ use panel51::Panel51;
 // What a run of 5 steps of this code answers, with 16 data bytes.
 fn stopped(code: &[u8]) -> (u32, u8) {
     let mut data = [0; 16];
-    let code = code;
-    stopped_with(code, &mut data)
-}
-
-fn stopped_with<'a>(code: &'a [u8], data: &'a mut [u8]) -> (u32, u8) {
-    let Ok(mut bus) = SplitBus::new(code, data) else {
+    let Ok(mut bus) = SplitBus::new(code, &mut data) else {
         return (0, 1);
     };
     let mut board = Script::new();

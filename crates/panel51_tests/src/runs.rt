@@ -4,32 +4,8 @@ use buses::{Bus, SplitBus};
 use logs::log::Log;
 use panel51::Panel51;
 use records::port_writes::PortRecord;
-use records::ports::Port;
-use records::traces::{Cycles, Marks, StepKind, TraceRecord};
+use records::traces::TraceRecord;
 use std::test::Fail;
-
-// A place of a trace log.
-pub fn no_trace() -> TraceRecord {
-    TraceRecord {
-        kind: StepKind::Instruction { opcode: 0 },
-        pc: 0,
-        cycles: Cycles::One,
-        marks: Marks {
-            low: false,
-            high: false,
-        },
-        accumulator: 0,
-    }
-}
-
-// A place of a port log.
-pub fn no_write() -> PortRecord {
-    PortRecord {
-        port: Port::P0,
-        byte: 0,
-        step: 0,
-    }
-}
 
 // A run of n steps with logs of 8 places: the steps made, the number that stopped it, and the accumulator in the last record.
 pub fn run_on<B: Bus, D: Board>(
@@ -38,16 +14,13 @@ pub fn run_on<B: Bus, D: Board>(
     board: &mut D,
     n: u32,
 ) -> (u32, u8, u8) {
-    let mut trace_places = [no_trace(); 8];
-    let mut port_places = [no_write(); 8];
+    let mut trace_places = [TraceRecord::BLANK; 8];
+    let mut port_places = [PortRecord::BLANK; 8];
     let mut traces = Log::new(&mut trace_places);
     let mut ports = Log::new(&mut port_places);
     let (made, stop) = core.run(bus, board, n, &mut traces, &mut ports);
-    let last = traces.len().saturating_sub(1);
-    match traces.entry(last) {
-        Some(record) => (made, stop, record.accumulator),
-        None => (made, stop, 0),
-    }
+    let last = traces.records().last();
+    (made, stop, last.map_or(0, |record| record.accumulator))
 }
 
 // A run of 0 makes no step, a run of 65,536 is refused, a full trace log and a full port log stop a run.
@@ -77,8 +50,8 @@ fn port_log(rt: HostRuntime) -> Result<(), Fail> {
     };
     let mut board = Script::new();
     let mut core = Panel51::new();
-    let mut trace_places = [no_trace(); 8];
-    let mut port_places = [no_write(); 2];
+    let mut trace_places = [TraceRecord::BLANK; 8];
+    let mut port_places = [PortRecord::BLANK; 2];
     let mut traces = Log::new(&mut trace_places);
     let mut ports = Log::new(&mut port_places);
     assert_eq!(rt;

@@ -1,6 +1,7 @@
 use Rattle.std.proofs.Common.{refl}
 use Rattle.step51.specs.Run.{run_of}
-use Rattle.output51.proofs.Computed.{output_case, add_overflow, add_carry, calls, ports, overflows}
+use Rattle.execute51.proofs.Computed.{calls, ports}
+use Rattle.output51.proofs.Computed.{output_case, add_overflow, add_carry, overflows}
 use Rattle.output51.proofs.cases.cases_hold.Goals as goal
 
 pub returns : goal.returns

@@ -27,8 +27,8 @@ logged_text true (Ok r) = refl
 logged_text true (Err e) = refl
 logged_text false x = refl
 
-pub run_files-stop-requires-clause-pins : goal.run_files-stop-requires-clause-pins
-run_files-stop-requires-clause-pins c = omega (arith, ap length c.front-2.ensures, length-take 4096 c.args.pins.now)
+pub run_files-stop-requires : goal.run_files-stop-requires
+run_files-stop-requires c = omega (arith, ap length c.front-2.ensures, length-take 4096 c.args.pins.now)
 
 pub returns : goal.returns
 returns c =
@@ -36,8 +36,8 @@ returns c =
     let code = c.front.result.now in
     let pins = c.front-2.result.now in
     let store = replicate 256 0 in
-    let ran : (c.run_files-stop.result, held c.run_files-stop.new.traces) ≡ kept trace_log (split_logged code store pins) =
-    c.run_files-stop.ensures ∙ ap (λ l. kept l (split_logged code store pins)) c.new-traces.ensures.value in
+    let ran : (c.run_files-stop.result, held c.run_files-stop.new.traces) ≡ kept trace_log (split_logged trace_log code store pins) =
+    c.run_files-stop.ensures ∙ ap (λ l. kept l (split_logged l code store pins)) c.new-traces.ensures.value in
     c.write_text.ensures
     ∙ ap (λ n. kept out (printed (text_of trace_bytes (held c.run_files-stop.new.traces).made n) out)) c.stop_number.ensures
     ∙ ap (λ x. kept out (printed (left x) out)) ran
