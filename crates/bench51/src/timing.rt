@@ -8,7 +8,7 @@ use panel51::Panel51;
 use records::pins::PinRecord;
 use records::port_writes::PortRecord;
 use records::ports::Port;
-use records::traces::{Cycles, Marks, StepKind, TraceRecord};
+use records::traces::TraceRecord;
 use std::time::{Duration, Instant};
 
 // The steps of one run.
@@ -27,34 +27,15 @@ const PIN_CYCLES: u32 = 5_000;
 
 const DATA_BYTES: usize = 1024;
 
-// Records to fill a new log's places with.
-const NO_TRACE: TraceRecord = TraceRecord {
-    kind: StepKind::Instruction { opcode: 0 },
-    pc: 0,
-    cycles: Cycles::One,
-    marks: Marks {
-        low: false,
-        high: false,
-    },
-    accumulator: 0,
-};
-
-const NO_PORT: PortRecord = PortRecord {
-    port: Port::P0,
-    byte: 0,
-    step: 0,
-};
-
 // The levels of port 2, changed again and again.
 fn pin_records() -> [PinRecord; PINS] {
-    let mut records = [PinRecord {
-        cycle: 0,
-        port: Port::P2,
-        level: 0xff,
-    }; PINS];
+    let mut records = [PinRecord::BLANK; PINS];
     for (i, record) in (0u32..).zip(&mut records) {
-        record.cycle = i.wrapping_mul(PIN_CYCLES);
-        record.level = (i % 256) as u8;
+        *record = PinRecord {
+            cycle: i.wrapping_mul(PIN_CYCLES),
+            port: Port::P2,
+            level: (i % 256) as u8,
+        };
     }
     records
 }
@@ -132,18 +113,17 @@ fn measure(rt: &HostRuntime, program: Program, most: u32) -> anyhow::Result<(Mad
         return Err(anyhow!("no bus"));
     };
     let records = pin_records();
-    let mut board = Script::new();
-    if board.load(&records).is_err() {
+    let Ok(mut board) = Script::playing(&records) else {
         return Err(anyhow!("pin records out of order"));
-    }
+    };
     let mut core = Panel51::new();
     core.reset(&mut board);
     let mut bench = Bench {
         core,
         bus,
         board,
-        traces: vec![in rt.alloc(); NO_TRACE; PLACES]?,
-        ports: vec![in rt.alloc(); NO_PORT; PLACES]?,
+        traces: vec![in rt.alloc(); TraceRecord::BLANK; PLACES]?,
+        ports: vec![in rt.alloc(); PortRecord::BLANK; PLACES]?,
     };
     let began = Instant::now(rt)?;
     let made = bench.runs(most);

@@ -3,11 +3,8 @@
 
 use anyhow::anyhow;
 use file_front::read_front;
-use output51::output::write_output;
+use output51::output::{FILE_BYTES, write_output};
 use std::io::Write;
-
-// The bytes of a file that count.
-const FILE_BYTES: usize = 4096;
 
 // The bytes of the longest output: 64 lines of 17, and the last line of 8.
 const TEXT_BYTES: usize = 1096;
@@ -15,6 +12,7 @@ const TEXT_BYTES: usize = 1096;
 fn main(rt: HostRuntime) -> anyhow::Result<()> {
     let code = read_front(&rt, "code.bin", FILE_BYTES)?;
     let pins = read_front(&rt, "pins.bin", FILE_BYTES)?;
+    // an array and a length: write_output uses no heap
     let mut text = [0; TEXT_BYTES];
     let length = write_output(code.as_slice(), pins.as_slice(), &mut text).map_err(|_| anyhow!(
         "no room for the text"

@@ -3,17 +3,15 @@
 
 use anyhow::anyhow;
 use file_front::read_front;
-use record_files::text::write_pins_text;
+use record_files::text::{PINS_BYTES, write_pins_text};
 use std::io::Write;
-
-// The bytes of a file that count.
-const FILE_BYTES: usize = 4096;
 
 // The bytes of the longest text: 512 lines of 17, and the last line of 8.
 const TEXT_BYTES: usize = 8712;
 
 fn main(rt: HostRuntime) -> anyhow::Result<()> {
-    let pins = read_front(&rt, "pins.bin", FILE_BYTES)?;
+    let pins = read_front(&rt, "pins.bin", PINS_BYTES)?;
+    // an array and a length: write_pins_text uses no heap
     let mut text = [0; TEXT_BYTES];
     let length = write_pins_text(pins.as_slice(), &mut text).map_err(|_| anyhow!(
         "no room for the text"
