@@ -1,7 +1,8 @@
 ghost use Rattle.std.specs.Prelude.{◌≡◌};
 ghost use Rattle.boards.specs.Board.{level_of, drive_of};
 
-// The level byte and the driven byte of each port.
+// The level byte and the driven byte of each port. Two arrays and no array of pairs, which would be no plainer: levels are set and
+// answered as a whole, and so are the lists of the meaning.
 #[derive(Clone, Copy, PartialEq, Eq, Debug)]
 pub struct PortPins {
     pub levels: [u8; 4],

@@ -1,4 +1,5 @@
-// The two timers in one machine cycle.
+// The two timers in one machine cycle. The new pins of port 3 are an argument of their own: Timers holds those of the cycle before, and
+// a struct of both would be no plainer.
 ghost use Rattle.std.specs.Prelude.{◌≡◌, ℕ, Bool};
 ghost use Rattle.cycles.specs.declared.timers.Mode.{Mode};
 ghost use Rattle.cycles.specs.Timers.{mode_of, count_byte, count_thirteen, count_sixteen, count_reload, count_of, count_entry, falls_of, runs_of, is_due, is_split, timer0_of, upper0_of, counts1_of, timer1_of, timers_of};

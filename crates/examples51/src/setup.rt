@@ -22,7 +22,7 @@ pub enum Cell {
 #[derive(Clone, Copy)]
 pub enum Part {
     Cell(Cell),
-    // the bit of PSW
+    // the bit of PSW, by the number that `with_bit` takes: an enum would be no plainer
     Flag(u8),
     Dptr,
     Pc,

@@ -61,7 +61,7 @@ fn port(byte: u8) -> Option<Port> {
     Port::try_from(byte.checked_sub(b'0')?).ok()
 }
 
-// The number of a working register.
+// The number of a working register, by its range of characters: `to_digit` answers a u32, to be converted back.
 fn register(byte: u8) -> Option<u8>
     ensures { IfSome result (λ n. n < 8) }
 {

@@ -36,7 +36,8 @@ fn target_byte<D: Board>(chip: &Chip, board: &D, i: Instruction, place: Option<P
     }
 }
 
-// A decoded instruction, with the address after it.
+// A decoded instruction, with the address after it. Chip, bus and board are parameters of their own: a rule of the project, bus and board
+// stand beside the core.
 #[tactic(auto, unfolding(crate::specs::Execute::perform_of))]
 fn perform<B: Bus, D: Board>(
     chip: &mut Chip,

@@ -63,7 +63,7 @@ const REGISTERS: [[bool; 8]; 16] = [
     [false, false, false, false, false, false, false, false], // F8H
 ];
 
-// The vectors by source.
+// The vectors by source, a constant table too.
 const VECTORS: [u16; 5] = [0x0003, 0x000b, 0x0013, 0x001b, 0x0023];
 
 // The address that the service of an interrupt source begins at.

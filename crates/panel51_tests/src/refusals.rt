@@ -3,7 +3,7 @@ use boards::script::Script;
 use buses::SplitBus;
 use panel51::Panel51;
 
-// What a run of 5 steps of this code answers, with 16 data bytes.
+// What a run of 5 steps of this code answers, a pair of plain numbers, with 16 data bytes.
 fn stopped(code: &[u8]) -> (u32, u8) {
     let mut data = [0; 16];
     let Ok(mut bus) = SplitBus::new(code, &mut data) else {

@@ -7,7 +7,7 @@ use records::port_writes::PortRecord;
 use records::traces::TraceRecord;
 use std::test::Fail;
 
-// A run of n steps with logs of 8 places: the steps made, the number that stopped it, and the accumulator in the last record.
+// A run of n steps with logs of 8 places: the steps made and the number that stopped it, as run gives them, and the accumulator in the last record.
 pub fn run_on<B: Bus, D: Board>(
     core: &mut Panel51,
     bus: &mut B,

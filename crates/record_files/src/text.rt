@@ -14,7 +14,7 @@ use records::refusals::Refusal;
 // The bytes of a file of pin records that count, and the records that they can be.
 pub const PINS_BYTES: usize = 4096;
 
-const PINS: usize = 512;
+pub const PINS: usize = 512;
 
 // The length of the last line.
 const STOP_LINE: usize = 8;

@@ -8,7 +8,8 @@ use logs::log::Log;
 use records::record::Record;
 use records::refusals::Refusal;
 
-// The bytes of a record, in front of zeros. Sixteen, since no array has a length that a trait states.
+// The bytes of a record, in front of zeros. Sixteen, of which WIDTH count: a rule of the project, no heap, and no array has a length that
+// a trait states.
 pub(crate) fn image_of<R: Record>(record: &R) -> [u8; 16]
     ensures { take R.Record.WIDTH result ≡ R.Record.image «record».now }
 {
