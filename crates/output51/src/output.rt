@@ -12,16 +12,14 @@ use buses::{Bus, SplitBus};
 use logs::log::Log;
 use panel51::Panel51;
 use record_files::reader::take_up;
-use record_files::text::write_text;
+use record_files::text::{PINS, write_text};
 use records::pins::PinRecord;
 use records::port_writes::PortRecord;
 use records::refusals::Refusal;
 use records::traces::TraceRecord;
 
-// The bytes of a file that count, and the pin records that they can be.
+// The bytes of a file that count.
 pub const FILE_BYTES: usize = 4096;
-
-const PINS: usize = 512;
 
 // The steps of the run, and the places of each of its logs.
 const STEPS: u32 = 64;

@@ -4,7 +4,7 @@ use Rattle.outcome.specs.Outcome.{kept, then}
 use Rattle.logs.specs.Log.{held}
 use Rattle.records.specs.Pin.{pin_taken, pin_ordered}
 use Rattle.record_files.specs.File.{file_records}
-use Rattle.record_files.proofs.Reading.{up_taken, up_refused, count_records}
+use Rattle.record_files.proofs.Reading.{up_refused, count_records}
 use Rattle.output51.specs.Output.{traced_into}
 use Rattle.output51.specs.Logged.{logged}
 use Rattle.output51.proofs.output.run_with_pins.Goals as goal
@@ -18,12 +18,3 @@ returns-in_err-take_up g c =
     (λ rs e. omega (arith, room, count_records pin_ordered pin_taken 8 file rs e, c.requires)) c.in_err-take_up.ensures.value in
     ap (λ e. (e, held c.args.traces.now)) (p.1 ∙ ap Err p.2)
     ∙ ap (λ r. kept (held c.args.traces.now) (logged (then r (traced_into (held c.args.traces.now) (g.B.Bus.memory c.args.bus.now))))) (sym x.0)
-
-pub returns : goal.returns
-returns g c =
-    let m = g.B.Bus.memory c.args.bus.now in
-    let x = up_taken (held c.new-records.result) (held c.take_up.new.log) (file_records 8 pin_taken pin_ordered c.args.pins.now)
-    (ap (λ l. l.made) c.new-records.ensures.value) c.in_ok-take_up.ensures.value in
-    c.run_with_records.ensures
-    ∙ ap (λ rs. kept (held c.args.traces.now) (logged (traced_into (held c.args.traces.now) m rs))) c.records.ensures
-    ∙ ap (λ r. kept (held c.args.traces.now) (logged (then r (traced_into (held c.args.traces.now) m)))) (sym x)
