@@ -1,6 +1,4 @@
 // The three programs. Each begins at 0030H, counts down its loops, and ends at 0100H in a jump to itself.
-ghost use Rattle.std.specs.Prelude.{◌+◌, ◌≤◌, length};
-
 // The size of the code memory.
 pub const CODE_BYTES: usize = 512;
 
@@ -124,10 +122,10 @@ const ENDING: [u8; 2] = [
 ];
 
 // Copies bytes to an address of the code memory.
-fn place(code: &mut [u8; CODE_BYTES], at: usize, bytes: &[u8])
-    requires { at + length bytes.now ≤ CODE_BYTES }
-{
-    code[at..at + bytes.len()].copy_from_slice(bytes);
+fn place(code: &mut [u8; CODE_BYTES], at: usize, bytes: &[u8]) {
+    for (to, byte) in code.iter_mut().skip(at).zip(bytes) {
+        *to = *byte;
+    }
 }
 
 impl Program {
