@@ -37,7 +37,9 @@ impl Report {
 
     fn bytes(&mut self, before: &str, got: &[u8], wanted: &[u8]) -> Result<(), AllocError> {
         for (i, (got, wanted)) in got.iter().zip(wanted).enumerate() {
-            self.byte(format_args!("{before}[{i:02X}]"), *got, *wanted)?;
+            if got != wanted {
+                self.byte(format_args!("{before}[{i:02X}]"), *got, *wanted)?;
+            }
         }
         Ok(())
     }

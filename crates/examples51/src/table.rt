@@ -135,10 +135,13 @@ fn append(bytes: &mut Vec<u8>, instruction: &str) -> Result<(), Problem> {
 // The code of an example.
 pub fn program(heap: Global, column: &str) -> Result<Code, Problem> {
     let mut bytes = Vec::new(heap);
-    for instruction in column.split(',') {
-        append(&mut bytes, instruction)?;
-    }
-    let instructions = u16::try_from(column.split(',').count()).map_err(|_| Problem::NoRoom)?;
+    // counted modulo 65,536
+    let instructions = column
+        .split(',')
+        .try_fold(0u16, |count, instruction| -> Result<u16, Problem> {
+            append(&mut bytes, instruction)?;
+            Ok(count.wrapping_add(1))
+        })?;
     Ok(Code {
         bytes,
         instructions,
