@@ -1,34 +1,39 @@
 // The front of a file, for the programs that read no more of one.
 #![tactic(auto)]
 
-ghost use Rattle.std.specs.Prelude.{◌≡◌, ◌≤◌, take, IfOk, IfSome, vec_len};
+ghost use Rattle.std.specs.Prelude.{◌≡◌, ◌≤◌, length, take, IfOk, IfSome};
 
-use std::alloc::Global;
 use std::fs::File;
 use std::io;
 use std::io::{ErrorKind, Read};
 
-// What a reader gives, at most so many bytes.
-fn front<R: Read + Drop>(alloc: Global, reader: R, most: usize) -> io::Result<Vec<u8>>
-    ensures count { IfOk result (λ bytes. vec_len bytes ≤ most) }
-    ensures bytes { IfOk result (λ bytes. IfSome (R.remaining reader) (λ given. bytes.items ≡ take most given)) }
+// Reads into a memory until the reader or the memory is at its end, and answers how many bytes it read. By hand: a rule of the project, no
+// heap. The library reads to the end into a Vec alone.
+fn fill<R: Read>(reader: &mut R, bytes: &mut [u8]) -> io::Result<usize>
+    ensures count { IfOk result (λ n. n ≤ length bytes.old) }
+    ensures bytes { IfOk result (λ n. IfSome (R.remaining reader.old) (λ given. take n bytes.new ≡ take (length bytes.old) given)) }
 {
-    let mut bytes = Vec::new(alloc);
-    reader.take(most as u64).read_to_end(&mut bytes)?;
-    // std's contract gives no bound for a reader of unknown bytes, as a file
-    bytes.truncate(most);
-    Ok(bytes)
+    let mut n = 0;
+    while n < bytes.len() {
+        let more = reader.read(&mut bytes[n..])?;
+        if more == 0 {
+            break;
+        }
+        n += more;
+    }
+    Ok(n)
 }
 
-// The first bytes of a file, at most so many; a missing file counts as empty.
-pub fn read_front(rt: &HostRuntime, path: &str, most: usize) -> io::Result<Vec<u8>>
-    ensures { IfOk result (λ bytes. vec_len bytes ≤ most) }
+// The first bytes of a file, as many as the memory takes, at its front; a missing file counts as empty.
+pub fn read_front<'a>(rt: &HostRuntime, path: &str, bytes: &'a mut [u8]) -> io::Result<&'a [u8]>
+    ensures { IfOk result (λ front. length front.now ≤ length bytes.old) }
 {
-    match File::open(rt, path) {
-        Ok(file) => front(rt.alloc(), file, most),
-        Err(e) if e.kind() == ErrorKind::NotFound => Ok(Vec::new(rt.alloc())),
-        Err(e) => Err(e),
-    }
+    let n = match File::open(rt, path) {
+        Ok(mut file) => fill(&mut file, bytes)?,
+        Err(e) if e.kind() == ErrorKind::NotFound => 0,
+        Err(e) => return Err(e),
+    };
+    Ok(&bytes[..n])
 }
 
 #[cfg(test)]
@@ -56,21 +61,27 @@ mod tests {
     #[test]
     fn of_readers(rt: HostRuntime) -> Result<(), Fail> {
         let given: &[u8] = &[1, 2, 3];
-        assert_eq!(rt; front(rt.alloc(), given, 2)?.as_slice(), &given[..2]);
-        assert_eq!(rt; front(rt.alloc(), given, 5)?.as_slice(), given);
-        assert!(rt; front(rt.alloc(), Broken { begun: false }, 5).is_err());
+        let mut bytes = [9; 5];
+        let mut reader = given;
+        assert_eq!(rt; fill(&mut reader, &mut bytes[..2])?, 2);
+        assert_eq!(rt; bytes, [1, 2, 9, 9, 9]);
+        let mut reader = given;
+        assert_eq!(rt; fill(&mut reader, &mut bytes)?, 3);
+        assert_eq!(rt; bytes, [1, 2, 3, 9, 9]);
+        assert!(rt; fill(&mut Broken { begun: false }, &mut bytes).is_err());
         Ok(())
     }
 
     // A file with no end, a missing one, and a folder, which can't be read.
     #[test]
     fn of_files(rt: HostRuntime) -> Result<(), Fail> {
+        let mut bytes = [9; 3];
         assert_eq!(rt;
-            read_front(&rt, "/dev/zero", 3)?.as_slice(),
+            read_front(&rt, "/dev/zero", &mut bytes)?,
             b"\0\0\0".as_slice()
         );
-        assert!(rt; read_front(&rt, "no such file", 3)?.is_empty());
-        assert!(rt; read_front(&rt, "/", 3).is_err());
+        assert!(rt; read_front(&rt, "no such file", &mut bytes)?.is_empty());
+        assert!(rt; read_front(&rt, "/", &mut bytes).is_err());
         Ok(())
     }
 }

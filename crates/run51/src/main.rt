@@ -10,13 +10,13 @@ use std::io::Write;
 const TEXT_BYTES: usize = 1096;
 
 fn main(rt: HostRuntime) -> anyhow::Result<()> {
-    let code = read_front(&rt, "code.bin", FILE_BYTES)?;
-    let pins = read_front(&rt, "pins.bin", FILE_BYTES)?;
+    let mut code_memory = [0; FILE_BYTES];
+    let code = read_front(&rt, "code.bin", &mut code_memory)?;
+    let mut pins_memory = [0; FILE_BYTES];
+    let pins = read_front(&rt, "pins.bin", &mut pins_memory)?;
     // an array and a length: write_output uses no heap
     let mut text = [0; TEXT_BYTES];
-    let length = write_output(code.as_slice(), pins.as_slice(), &mut text).map_err(|_| anyhow!(
-        "no room for the text"
-    ))?;
+    let length = write_output(code, pins, &mut text).map_err(|_| anyhow!("no room for the text"))?;
     rt.stdout().write_all(&text[..length.min(TEXT_BYTES)])?;
     Ok(())
 }

@@ -10,12 +10,11 @@ use std::io::Write;
 const TEXT_BYTES: usize = 8712;
 
 fn main(rt: HostRuntime) -> anyhow::Result<()> {
-    let pins = read_front(&rt, "pins.bin", PINS_BYTES)?;
+    let mut memory = [0; PINS_BYTES];
+    let pins = read_front(&rt, "pins.bin", &mut memory)?;
     // an array and a length: write_pins_text uses no heap
     let mut text = [0; TEXT_BYTES];
-    let length = write_pins_text(pins.as_slice(), &mut text).map_err(|_| anyhow!(
-        "no room for the text"
-    ))?;
+    let length = write_pins_text(pins, &mut text).map_err(|_| anyhow!("no room for the text"))?;
     rt.stdout().write_all(&text[..length.min(TEXT_BYTES)])?;
     Ok(())
 }
