@@ -51,7 +51,7 @@ tested x y = by (nat_cmp x y) (ranks x y)
     by Equal h = sym (le-leb x y (omega arith))
     by Greater h = sym (lt-leb x y h)
 
--- `is_sorted_by_key` by the cycle answers whether the records are in order
+-- `is_sorted_by` the cycle answers whether the records are in order
 pub in_order_answered : (rs : List PinRecord) (b : Bool)
     → IsAllAdjacentAnswer (λ (x y : PinRecord) (t : Bool). t ≡ is_some_and is_le (Some (nat_cmp x.cycle y.cycle))) rs b
     → b ≡ cycles_in_order rs

@@ -110,5 +110,5 @@ fn advance<'a>(records: &'a [PinRecord], ticks: u32, before: [u8; 4]) -> Cursor<
 fn in_order(records: &[PinRecord]) -> bool
     ensures { result ≡ cycles_in_order records.now }
 {
-    records.is_sorted_by_key(|record| record.cycle)
+    records.is_sorted_by(|before, record| before.cycle <= record.cycle)
 }
