@@ -37,6 +37,7 @@ fn note(ports: &mut Log<'_, PortRecord>, i: u32, write: Option<PortWrite>)
 impl Panel51 {
     // One step entered in the logs, or why the run stops before it. Bus, board and logs are parameters of their own, as those of run: a
     // rule of the project, they stand beside the core.
+    #[tactic(auto, using(crate::proofs::Turns::turned))]
     fn turn<B: Bus, D: Board>(
         &mut self,
         bus: &mut B,
