@@ -1,4 +1,4 @@
-use Rattle.std.proofs.Common.{rules, ◌≡◌, ℕ, ◌+◌, ◌-◌, ◌≤◌, List, ◌++◌, length, take, sym, ap, ◌∙◌, subst, length-take-le}
+use Rattle.std.proofs.Common.{rules, ◌≡◌, ℕ, ◌+◌, ◌≤◌, List, ◌++◌, length, take, sym, ap, ◌∙◌, subst, length-take-le}
 use Rattle.std.proofs.Math.Seq.{take-append-add}
 use Rattle.std.proofs.lemmas.List.{take-append-le}
 use Rattle.std.specs.Io.KnownBytes.{Consumes}
@@ -16,6 +16,5 @@ grown a k m xs ys within fits =
 
 pub loop-n-preserved : goal.loop-n-preserved
 loop-n-preserved g c =
-    let n = c.loop-n.n in
-    let same = grown n (length c.loop-n.bytes - n) c.in_ok-more.more c.loop-n.bytes c.read.new.buf c.loop-n.invariant.1 c.in_ok-more.ensures.bound.0 in
-    (search rules, search rules, subst (Consumes _ _) same (Consumes-trans _ _ _ _ _ c.loop-n.invariant.2 c.in_ok-more.ensures.bytes.0))
+    let more = Consumes-trans _ _ _ _ _ c.loop-n.invariant.2 c.in_ok-more.ensures.bytes.0 in
+    (search rules, search rules, subst (Consumes _ _) (grown _ _ _ _ _ c.loop-n.invariant.1 c.in_ok-more.ensures.bound.0) more)
