@@ -36,6 +36,10 @@ impl Report {
     }
 
     fn bytes(&mut self, before: &str, got: &[u8], wanted: &[u8]) -> Result<(), AllocError> {
+        // most bytes agree: as a whole they are compared at the least cost
+        if got == wanted {
+            return Ok(());
+        }
         for (i, (got, wanted)) in got.iter().zip(wanted).enumerate() {
             if got != wanted {
                 self.byte(format_args!("{before}[{i:02X}]"), *got, *wanted)?;
