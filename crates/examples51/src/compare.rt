@@ -36,7 +36,7 @@ impl Report {
     }
 
     fn bytes(&mut self, before: &str, got: &[u8], wanted: &[u8]) -> Result<(), AllocError> {
-        // most bytes agree: as a whole they are compared at the least cost
+        // most slices agree, and to compare them whole costs less than byte by byte
         if got == wanted {
             return Ok(());
         }

@@ -8,7 +8,7 @@ use std::io;
 use std::io::{ErrorKind, Read};
 
 // Reads into a memory until the reader or the memory is at its end, and answers how many bytes it read. By hand: a rule of the project, no
-// heap. The library's read_to_end takes a Vec, and its copy into a slice does not say which bytes.
+// heap. The library's read_to_end takes a Vec, its read_exact refuses a shorter reader, and its copy into a slice does not say which bytes.
 fn fill<R: Read>(reader: &mut R, bytes: &mut [u8]) -> io::Result<usize>
     ensures count { IfOk result (λ n. n ≤ length bytes.old) }
     ensures bytes { IfOk result (λ n. IfSome (R.remaining reader.old) (λ given. take n bytes.new ≡ take (length bytes.old) given)) }
